@@ -1,0 +1,1 @@
+// Bytes on the wire: lists with a part replaced.
