@@ -3,7 +3,7 @@ use mathlib.Core.Path.{_≡_, refl}
 use mathlib.Core.Bool.{Bool, true, false}
 use mathlib.Core.List.{List, [], _∷_}
 use Prim.Native.Nat.{ℕ}
-use lib.Ieee.{Float, binary32, ofBits, lt, add, sub}
+use lib.Ieee.{binary32, ofBits, lt, add, sub}
 use Rattle.trip.specs.declared.Point.{Point}
 use Rattle.trip.specs.declared.On.{On}
 use Rattle.trip.specs.Trip.{settled, low-next, high-next, point-next, finite, usable-pressure, off, point-after}

@@ -1,13 +1,13 @@
 -- The laws of `splice`: what it leaves, what it makes, and splices after each other. Assumes nothing.
 use mathlib.Core.Bool.{Bool, true, false, _||_}
 use mathlib.Core.Path.{_≡_, refl, sym, ap, _∙_}
-use mathlib.Core.List.{List, [], _++_, append-assoc, append-nil}
-use Prim.Native.Nat.{ℕ, _+_, _-_, _≤_}
+use mathlib.Core.List.{List, [], _∷_, _++_, append-assoc, append-nil}
+use Prim.Native.Nat.{ℕ, suc, _+_, _-_, _≤_, _<_}
 use native.Mathlib.Nat.{add-zero}
 use native.Mathlib.Omega.{arith}
 use lib.Dec.{leb, ltb}
-use lib.ListN.{length, take, drop, getD, length-append, length-take, length-drop, List·getD-append, take-append-drop}
-use lib.Seq.{take-at, drop-at, length-take-le, drop-drop, take-add, drop-append-le, take-append-le, drop-length, getD-drop, getD-take, getD-append-add}
+use lib.ListN.{length, take, drop, getD, set, length-append, length-take, length-drop, List·getD-append, take-append-drop}
+use lib.Seq.{take-at, drop-at, length-take-le, drop-drop, take-add, drop-append-le, take-append-le, drop-length, getD-drop, getD-take, getD-append-add, take-suc-set, drop-set-lt}
 use borrow.Author.Tests.{leb-true, ltb-true}
 use Rattle.wire.specs.Splice.{splice, apart}
 
@@ -15,7 +15,18 @@ pub length-splice : (l : List ℕ) (at : ℕ) (vs : List ℕ) → at + length vs
 unfolding splice
 length-splice l at vs h = simp (length-append, length-take, length-drop) (omega arith)
 
+-- the same with a condition that numbers settle
+pub splice-length : (l : List ℕ) (at : ℕ) (vs : List ℕ) → leb (at + length vs) (length l) ≡ true → length (splice l at vs) ≡ length l
+splice-length l at vs h = length-splice l at vs (leb-true _ _ h)
+
 -- ---- what a splice makes
+
+-- a store, and the rest behind it
+pub splice-cons : (l : List ℕ) (at b : ℕ) (vs : List ℕ) → at < length l → splice l at (b ∷ vs) ≡ splice (set l at b) (suc at) vs
+unfolding splice
+splice-cons l at b vs h =
+    let e : at + suc (length vs) ≡ suc at + length vs = omega arith in
+    rw (take-suc-set l at b h, drop-set-lt (suc at + length vs) l at b (omega arith), append-assoc (take at l) (b ∷ []) (vs ++ drop (suc at + length vs) l), e)
 
 pub splice-mid : (A M B Z : List ℕ) (at : ℕ) → length A ≡ at → length M ≡ length B → splice (A ++ (M ++ Z)) at B ≡ A ++ (B ++ Z)
 unfolding splice

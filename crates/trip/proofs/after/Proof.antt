@@ -1,7 +1,7 @@
 -- `trip::after`: by whether the sample is usable. Assumes nothing.
-use Rattle.trip.specs.Trip.{point-after, off}
 use mathlib.Core.Path.{sym, _∙_}
 use borrow.Author.Needs.{needs}
+use Rattle.trip.specs.Trip.{point-after, off}
 use Rattle.trip.proofs.after.Statement.{statement}
 use Rattle.trip.proofs.after.Tie as tie
 

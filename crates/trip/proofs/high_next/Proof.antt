@@ -1,6 +1,6 @@
 -- `trip::high_next`: the tests handed to `settle` are those of `high-next`. Assumes nothing.
-use Rattle.trip.specs.Trip.{high-next}
 use borrow.Author.Needs.{needs}
+use Rattle.trip.specs.Trip.{high-next}
 use Rattle.trip.proofs.high_next.Statement.{statement}
 use Rattle.trip.proofs.high_next.Tie as tie
 

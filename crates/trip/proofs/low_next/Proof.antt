@@ -1,6 +1,6 @@
 -- `trip::low_next`: the tests handed to `settle` are those of `low-next`. Assumes nothing.
-use Rattle.trip.specs.Trip.{low-next}
 use borrow.Author.Needs.{needs}
+use Rattle.trip.specs.Trip.{low-next}
 use Rattle.trip.proofs.low_next.Statement.{statement}
 use Rattle.trip.proofs.low_next.Tie as tie
 

@@ -1,6 +1,6 @@
 -- `trip::next`: side by side. Assumes nothing.
-use Rattle.trip.specs.Trip.{point-next}
 use borrow.Author.Needs.{needs}
+use Rattle.trip.specs.Trip.{point-next}
 use Rattle.trip.proofs.next.Statement.{statement}
 use Rattle.trip.proofs.next.Tie as tie
 

@@ -1,6 +1,6 @@
 -- `trip::settle`: each way out is the case of `settled` that its tests name. Assumes nothing.
-use Rattle.trip.specs.Trip.{settled}
 use borrow.Author.Tests.{not-true, not-false}
+use Rattle.trip.specs.Trip.{settled}
 use Rattle.trip.proofs.settle.Statement.{statement}
 use Rattle.trip.proofs.settle.Tie as tie
 

@@ -1,8 +1,8 @@
 -- `trip::usable`: below plus infinity and not negative is finite and not negative. Assumes nothing.
-use Rattle.trip.proofs.Pressure.{made-inf, no-flag, negative, rest}
+use mathlib.Core.Path.{sym, ap, _∙_}
 use lib.Ieee.{lt}
 use borrow.Author.Tests.{ne-eqb}
-use mathlib.Core.Path.{sym, ap, _∙_}
+use Rattle.trip.proofs.Pressure.{made-inf, no-flag, negative, rest}
 use Rattle.trip.proofs.usable.Statement.{statement}
 use Rattle.trip.proofs.usable.Tie as tie
 
