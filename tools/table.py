@@ -32,7 +32,13 @@ PLACES = [
     ("settings-2", 0x800F, 0x01), ("sensor-error", 0x9005, 0x02), ("trip-input-1", 0x900E, 0x01),
     ("trip-input-2", 0x900F, 0x01), ("summary-byte", 0xF380, 0x00), ("active-word", 0xF383, 0x01),
     ("latched-status", 0xF390, 0x00), ("latched-word", 0xF393, 0x01), ("trip-outputs", 0xF641, 0x01),
-    ("power-on-time", 0xF9F6, 0x00)]
+    ("power-on-time", 0xF9F6, 0x00), ("reset-status", 0xFBF0, 0x02), ("exception-status", 0xFBF1, 0x02),
+    ("store-status", 0xFBF2, 0x02), ("load-status", 0xFBF4, 0x02)]
+
+# a command's response stands behind its status
+RESPONSES = [
+    ("reset-status", 0xFBF0, 0x03), ("exception-status", 0xFBF1, 0x03), ("store-status", 0xFBF2, 0x03),
+    ("load-status", 0xFBF4, 0x03)]
 
 # a trip point's settings, counted from the first of them: the same in 800E and 800F
 SETTINGS = [
@@ -197,6 +203,8 @@ named-places =
 """
     for name, index, sub in PLACES:
         text += "    placed 0x%04X 0x%02X %s ∷\n" % (index, sub, name)
+    for name, index, sub in RESPONSES:
+        text += "    placed 0x%04X 0x%02X (%s + 1) ∷\n" % (index, sub, name)
     for first, index in (("settings-1", 0x800E), ("settings-2", 0x800F)):
         for name, sub in SETTINGS:
             text += "    placed 0x%04X 0x%02X (%s + %s) ∷\n" % (index, sub, first, name)

@@ -75,6 +75,22 @@ trip-outputs = 452
 abbrev pub power-on-time : ℕ
 power-on-time = 575
 
+-- FBF0:02
+abbrev pub reset-status : ℕ
+reset-status = 587
+
+-- FBF1:02
+abbrev pub exception-status : ℕ
+exception-status = 590
+
+-- FBF2:02
+abbrev pub store-status : ℕ
+store-status = 593
+
+-- FBF4:02
+abbrev pub load-status : ℕ
+load-status = 596
+
 -- 800E:01 and 800F:01, counted from subindex 01
 abbrev pub high-enable : ℕ
 high-enable = 0
@@ -128,6 +144,14 @@ named-places =
     placed 0xF393 0x01 latched-word ∷
     placed 0xF641 0x01 trip-outputs ∷
     placed 0xF9F6 0x00 power-on-time ∷
+    placed 0xFBF0 0x02 reset-status ∷
+    placed 0xFBF1 0x02 exception-status ∷
+    placed 0xFBF2 0x02 store-status ∷
+    placed 0xFBF4 0x02 load-status ∷
+    placed 0xFBF0 0x03 (reset-status + 1) ∷
+    placed 0xFBF1 0x03 (exception-status + 1) ∷
+    placed 0xFBF2 0x03 (store-status + 1) ∷
+    placed 0xFBF4 0x03 (load-status + 1) ∷
     placed 0x800E 0x01 (settings-1 + high-enable) ∷
     placed 0x800E 0x02 (settings-1 + low-enable) ∷
     placed 0x800E 0x11 (settings-1 + high-level) ∷

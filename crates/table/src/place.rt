@@ -54,6 +54,18 @@ pub const TRIP_OUTPUTS: usize = 452;
 // F9F6:00
 pub const POWER_ON_TIME: usize = 575;
 
+// FBF0:02
+pub const RESET_STATUS: usize = 587;
+
+// FBF1:02
+pub const EXCEPTION_STATUS: usize = 590;
+
+// FBF2:02
+pub const STORE_STATUS: usize = 593;
+
+// FBF4:02
+pub const LOAD_STATUS: usize = 596;
+
 // 800E:01 and 800F:01, counted from subindex 01
 pub const HIGH_ENABLE: usize = 0;
 
