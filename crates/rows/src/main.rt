@@ -1,0 +1,125 @@
+// Prints the object table from the proved functions, one row to a line: index, subindex, type, access, NV mark, length, place,
+// minimum, maximum, default. Numbers are in capital hex, length and place in decimal; a dash stands where a row has none.
+use io::print_decimal;
+use io::write_all;
+use libc::STDOUT_FILENO;
+use table::field;
+ghost use Prim.Native.Nat.{_≤_, _<_};
+ghost use Rattle.table.specs.Rows.{row-count};
+
+fn wide(x: u8) -> u64 {
+    x as u64
+}
+
+fn wide16(x: u16) -> u64 {
+    x as u64
+}
+
+fn digit(n: u8) -> u8
+    requires { ⌜ n < 16 ⌝ }
+{
+    if n < 10 {
+        return 48 + n;
+    }
+    55 + n
+}
+
+// The last digits of v, in hex.
+fn print_hex(v: u64, digits: usize)
+    requires { ⌜ digits ≤ 16 ⌝ }
+{
+    let mut text = [48u8; 16];
+    let mut left = v;
+    let mut at = 16;
+    while 0 < at {
+        at -= 1;
+        text[at] = digit((left % 16) as u8);
+        left = left / 16;
+    }
+    write_all(STDOUT_FILENO, &text[16 - digits..]);
+}
+
+fn print_kind(kind: u8) {
+    match kind {
+        0 => write_all(STDOUT_FILENO, b" BOOL "),
+        1 => write_all(STDOUT_FILENO, b" USINT "),
+        2 => write_all(STDOUT_FILENO, b" UINT "),
+        3 => write_all(STDOUT_FILENO, b" UDINT "),
+        4 => write_all(STDOUT_FILENO, b" ULINT "),
+        5 => write_all(STDOUT_FILENO, b" REAL "),
+        6 => write_all(STDOUT_FILENO, b" STRING "),
+        7 => write_all(STDOUT_FILENO, b" CARD "),
+        _ => write_all(STDOUT_FILENO, b" COMMAND "),
+    }
+    ;
+}
+
+fn print_access(access: u8, nv: u8) {
+    match access {
+        1 => write_all(STDOUT_FILENO, b"RO"),
+        2 => write_all(STDOUT_FILENO, b"WO"),
+        _ => write_all(STDOUT_FILENO, b"RW"),
+    }
+    ;
+    if nv == 1 {
+        write_all(STDOUT_FILENO, b" NV ");
+    } else {
+        write_all(STDOUT_FILENO, b" - ");
+    }
+}
+
+// Only numbers have limits and a default: of len bytes, so at most eight.
+fn print_limits(row: usize, len: usize)
+    requires { ⌜ row < row-count ⌝ }
+{
+    if 8 < len {
+        write_all(STDOUT_FILENO, b" - - -\n");
+        return;
+    }
+    write_all(STDOUT_FILENO, b" ");
+    print_hex(field::low_of(row), 2 * len);
+    write_all(STDOUT_FILENO, b" ");
+    print_hex(field::high_of(row), 2 * len);
+    write_all(STDOUT_FILENO, b" ");
+    print_hex(field::def_of(row), 2 * len);
+    write_all(STDOUT_FILENO, b"\n");
+}
+
+fn print_row(row: usize)
+    requires { ⌜ row < row-count ⌝ }
+{
+    print_hex(wide16(field::index_of(row)), 4);
+    write_all(STDOUT_FILENO, b" ");
+    print_hex(wide(field::sub_of(row)), 2);
+    let kind = field::kind_of(row);
+    print_kind(kind);
+    print_access(field::access_of(row), field::nv_of(row));
+    print_extent(row, kind);
+}
+
+// Length and place, and what only numbers have.
+fn print_extent(row: usize, kind: u8)
+    requires { ⌜ row < row-count ⌝ }
+{
+    let len = field::len_of(row);
+    print_decimal(STDOUT_FILENO, len as u64);
+    write_all(STDOUT_FILENO, b" ");
+    if kind < 7 {
+        print_decimal(STDOUT_FILENO, field::place_of(row) as u64);
+    } else {
+        write_all(STDOUT_FILENO, b"-");
+    }
+    if kind < 6 {
+        print_limits(row, len);
+    } else {
+        write_all(STDOUT_FILENO, b" - - -\n");
+    }
+}
+
+fn main() {
+    let mut row = 0;
+    while row < table::ROWS {
+        print_row(row);
+        row += 1;
+    }
+}
