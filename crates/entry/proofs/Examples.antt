@@ -3,7 +3,8 @@ use mathlib.Core.Path.{_≡_, refl}
 use Prim.Native.Nat.{ℕ}
 use mathlib.Core.List.{List, [], _∷_, map}
 use lib.Ieee.{lt, isNan, ofBits, ofFields}
-use Rattle.entry.specs.Limits.{REAL, verdict-code, first-fault, whole-verdict, real-verdict, by-kind, kind-verdict}
+use Rattle.table.specs.Row.{USINT, REAL}
+use Rattle.entry.specs.Limits.{verdict-code, first-fault, whole-verdict, real-verdict, by-kind, kind-verdict}
 
 -- a number of a kind, with its limits and the code that it brings
 pub record Judged : Type 0 where
@@ -21,7 +22,7 @@ abbrev finite : ℕ → ℕ → Judged
 finite v code = record { kind = REAL; low = 0xFF7FFFFF; high = 0x7F7FFFFF; v = v; code = code }
 
 abbrev lock : ℕ → ℕ → Judged
-lock v code = record { kind = 1; low = 0; high = 1; v = v; code = code }
+lock v code = record { kind = USINT; low = 0; high = 1; v = v; code = code }
 
 -- In order: 0, minus zero, 1500 and the next above it, the least below zero; not a number, plus and minus infinity;
 -- the same three where every finite number is allowed, with the largest and the least of these; the lock at 0, 1 and 2.

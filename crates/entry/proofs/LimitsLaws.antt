@@ -2,16 +2,16 @@
 use mathlib.Core.Path.{_≡_, refl, sym, _∙_}
 use mathlib.Core.Bool.{Bool, true, false}
 use mathlib.Core.Logic.{⊎-elim}
-use Prim.Native.Nat.{ℕ, _%_, _<_, _≤_}
+use Prim.Native.Nat.{ℕ, _<_, _≤_}
 use native.Mathlib.Nat.{eq-or-lt-of-le}
 use native.Mathlib.Omega.{arith}
-use lib.Dec.{eqb, ltb}
-use lib.Ieee.{binary32, lt, isNan, ofBits}
+use lib.Dec.{ltb}
+use lib.Ieee.{binary32, isNan, ofBits}
 use lib.Ieee.Bits.{nanBits-is, nanBits-above}
 use borrow.Author.Tests.{lt-ltb, le-ltb, eq-eqb, ne-eqb, ltb-false}
-use Rattle.entry.specs.Rank.{rank, real-rank}
-use Rattle.entry.specs.Limits.{REAL, Patterns, first-fault, whole-verdict, real-verdict, by-kind, kind-verdict}
-use Rattle.entry.specs.declared.limits.Verdict.{Verdict}
+use Rattle.table.specs.Row.{REAL}
+use Rattle.table.specs.Rule.{pick, rank, real-rank}
+use Rattle.entry.specs.Limits.{Patterns, first-fault, whole-verdict, real-verdict, by-kind, kind-verdict}
 use Rattle.entry.specs.declared.limits.Verdict.the-variants.{Within, NotANumber}
 use Rattle.entry.proofs.Real.{magnitude, real-lt}
 
@@ -79,6 +79,7 @@ within-number low high v e =
 -- Numbers that are no NaN's are judged by their ranks, of whatever kind.
 pub verdict-by-rank : (k low high v : ℕ) → k ≤ REAL → (k ≡ REAL → Patterns low high v) → (k ≡ REAL → magnitude v ≤ 2139095040)
     → kind-verdict k low high v ≡ whole-verdict (rank k low) (rank k high) (rank k v)
+unfolding rank pick
 verdict-by-rank k low high v h p n =
     ⊎-elim
     (λ e. sym (simp (eq-eqb k REAL e) (by-rank low high v (p e) _ _ _ (n e) refl refl refl ∙ kind-real k low high v e)))

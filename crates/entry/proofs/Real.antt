@@ -1,20 +1,19 @@
 -- The order of the REALs, judged on their bit patterns as whole numbers: it is the order of `lib.Ieee`.
 -- Assumes nothing.
 use mathlib.Core.Path.{_≡_, refl, sym, ap, subst, _∙_}
-use mathlib.Core.Bool.{Bool, true, false, not, _&&_, cond}
-use mathlib.Core.Logic.{_⊎_, inl, inr, ⊎-elim}
+use mathlib.Core.Bool.{Bool, true, false, cond}
+use mathlib.Core.Logic.{⊎-elim}
 use Prim.Native.Nat.{ℕ, zero, suc, _+_, _-_, _*_, _/_, _%_, _^_, _<_, _≤_}
-use native.Mathlib.Nat.{pow-suc, pow-zero, eq-or-lt-of-le, mul-comm, mul-assoc, mul-left-comm, mul-one, mul-pos, zero-mul, add-mul, le-trans, lt-of-lt-of-le, mul-le-mul, le-refl, mul-lt-mul-of-pos-right, le-of-lt, mul-le-mul-right, lt-of-mul-lt-mul-right}
+use native.Mathlib.Nat.{pow-suc, pow-zero, eq-or-lt-of-le, mul-comm, mul-assoc, mul-pos, zero-mul, add-mul, lt-of-lt-of-le, mul-le-mul, le-refl, mul-lt-mul-of-pos-right, le-of-lt, lt-of-mul-lt-mul-right}
 use native.Mathlib.Omega.{arith}
-use lib.IntN.{ℤ}
-use lib.Dec.{T, eqb, ltb, leb, lit<}
+use lib.Dec.{eqb, ltb, leb}
 use lib.Pow.{pow-pos, pow-mono}
 use borrow.Author.Tests.{eq-eqb, ne-eqb, lt-ltb, le-ltb, le-leb, lt-leb}
-use lib.Ieee.{Float, nan, inf, fin, binary32, below, lt, ofBits, ofFields, up, down, odd, hid, top, ones}
+use lib.Ieee.{Float, nan, inf, fin, binary32, below, lt, ofBits, ofFields, up, down, odd}
 use lib.Ieee.Exact.{HasValue, odd-sign}
 use lib.Ieee.Fits.{down-pos}
-use Rattle.entry.proofs.Order.{lt-or-ge}
-use Rattle.entry.specs.Rank.{real-rank}
+use Rattle.table.proofs.Walks.{lt-or-ge}
+use Rattle.table.specs.Rule.{pick, real-rank}
 
 -- ---- order tests of the same numbers scaled
 
@@ -166,7 +165,7 @@ inf-both true false = refl
 inf-both true true = refl
 
 -- the float order is that of sign and magnitude
-pub pattern-lt : (a b : ℕ) → magnitude a ≤ 2139095040 → magnitude b ≤ 2139095040
+pattern-lt : (a b : ℕ) → magnitude a ≤ 2139095040 → magnitude b ≤ 2139095040
     → lt (ofBits binary32 a) (ofBits binary32 b) ≡ below (negative a) (magnitude a) (negative b) (magnitude b)
 pattern-lt a b ha hb =
     ⊎-elim
@@ -182,7 +181,8 @@ pattern-lt a b ha hb =
     (eq-or-lt-of-le ha)
 
 -- and that of the ranks
-pub rank-lt : (a b : ℕ) → a < 4294967296 → b < 4294967296 → below (negative a) (magnitude a) (negative b) (magnitude b) ≡ ltb (real-rank a) (real-rank b)
+rank-lt : (a b : ℕ) → a < 4294967296 → b < 4294967296 → below (negative a) (magnitude a) (negative b) (magnitude b) ≡ ltb (real-rank a) (real-rank b)
+unfolding real-rank pick
 rank-lt a b ha hb =
     ⊎-elim
     (λ la. ⊎-elim

@@ -1,9 +1,9 @@
 -- What a number is to the limits of its row (document 01, "Order of checks": "limits: not a number or wrong layout 06090030, above 06090031, below 06090032").
-use mathlib.Core.Path.{_≡_}
 use mathlib.Core.Bool.{Bool, true, false}
 use Prim.Native.Nat.{ℕ, _%_, _<_, _≤_}
-use lib.Dec.{eqb, ltb, leb}
+use lib.Dec.{eqb, ltb}
 use lib.Ieee.{binary32, lt, isNan, ofBits}
+use Rattle.table.specs.Row.{REAL}
 use Rattle.entry.specs.declared.limits.Verdict.{Verdict}
 use Rattle.entry.specs.declared.limits.Verdict.the-variants.{Within, NotANumber, Above, Below}
 
@@ -13,10 +13,6 @@ verdict-code Within = 0
 verdict-code NotANumber = 0x06090030
 verdict-code Above = 0x06090031
 verdict-code Below = 0x06090032
-
--- the kinds that have a meaning here
-abbrev pub REAL : ℕ
-REAL = 5
 
 -- not a number, above the highest, below the lowest: the first that holds decides
 unfoldable pub first-fault : Bool → Bool → Bool → Verdict

@@ -1,8 +1,9 @@
 // A number against the limits of its row.
 ghost use mathlib.Core.Path.{_≡_};
 ghost use Prim.Native.Nat.{_<_};
-ghost use Rattle.entry.specs.Limits.{REAL, Patterns, whole-verdict, real-verdict, kind-verdict, verdict-code};
-ghost use Rattle.entry.specs.Rank.{real-rank};
+ghost use Rattle.entry.specs.Limits.{Patterns, whole-verdict, real-verdict, kind-verdict, verdict-code};
+ghost use Rattle.table.specs.Row.{REAL};
+ghost use Rattle.table.specs.Rule.{real-rank};
 
 pub enum Verdict {
     Within,
