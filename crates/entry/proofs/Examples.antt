@@ -15,8 +15,8 @@ pub record Judged : Type 0 where
   pub code : ℕ
 
 -- trip levels lie from 0 to 1500, other REALs are finite; the lock is 0 or 1
-abbrev level : ℕ → ℕ → Judged
-level v code = record { kind = REAL; low = 0; high = 0x44BB8000; v = v; code = code }
+abbrev trip-level : ℕ → ℕ → Judged
+trip-level v code = record { kind = REAL; low = 0; high = 0x44BB8000; v = v; code = code }
 
 abbrev finite : ℕ → ℕ → Judged
 finite v code = record { kind = REAL; low = 0xFF7FFFFF; high = 0x7F7FFFFF; v = v; code = code }
@@ -28,14 +28,14 @@ lock v code = record { kind = USINT; low = 0; high = 1; v = v; code = code }
 -- the same three where every finite number is allowed, with the largest and the least of these; the lock at 0, 1 and 2.
 abbrev pub judged : List Judged
 judged =
-    level 0 0 ∷
-    level 0x80000000 0 ∷
-    level 0x44BB8000 0 ∷
-    level 0x44BB8001 0x06090031 ∷
-    level 0x80000001 0x06090032 ∷
-    level 0x7FC00000 0x06090030 ∷
-    level 0x7F800000 0x06090031 ∷
-    level 0xFF800000 0x06090032 ∷
+    trip-level 0 0 ∷
+    trip-level 0x80000000 0 ∷
+    trip-level 0x44BB8000 0 ∷
+    trip-level 0x44BB8001 0x06090031 ∷
+    trip-level 0x80000001 0x06090032 ∷
+    trip-level 0x7FC00000 0x06090030 ∷
+    trip-level 0x7F800000 0x06090031 ∷
+    trip-level 0xFF800000 0x06090032 ∷
     finite 0xFFFFFFFF 0x06090030 ∷
     finite 0x7F800000 0x06090031 ∷
     finite 0xFF800000 0x06090032 ∷

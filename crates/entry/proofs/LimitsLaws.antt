@@ -1,4 +1,4 @@
--- Laws of the verdicts.
+-- Laws of the verdicts: by kind, by rank, and what `Within` says.
 use mathlib.Core.Path.{_≡_, refl, sym, _∙_}
 use mathlib.Core.Bool.{Bool, true, false}
 use mathlib.Core.Logic.{⊎-elim}
@@ -62,7 +62,7 @@ whole-within low high v e =
     let f = no-fault false (ltb high v) (ltb v low) e in
     (ltb-false v low (f .2), ltb-false high v (f .1))
 
--- what `Within` says of a whole number, and when it is said
+-- what `Within` says of a whole number
 module _ (k low high v : ℕ) (h : k < REAL) where
   pub within-low : kind-verdict k low high v ≡ Within → low ≤ v
   within-low e = whole-within low high v (kind-whole k low high v h ∙ e) .0

@@ -10,7 +10,7 @@ use Rattle.table.specs.Rule.{pick, held}
 use Rattle.entry.specs.Limits.{kind-verdict}
 use Rattle.entry.specs.declared.limits.Verdict.{Verdict}
 
--- the bytes that an entry has in the values, by type and length
+-- `held`, by the type and the length alone
 unfoldable pub held-by : ℕ → ℕ → ℕ
 held-by kind len = pick (leb CARD kind) 0 len
 
