@@ -1,0 +1,5 @@
+-- Laws that other crates cite.
+pub mod PlaceLaws
+pub mod SampleLaws
+pub mod ImageLaws
+pub mod WholeSamples

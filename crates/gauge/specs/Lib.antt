@@ -1,0 +1,5 @@
+-- What the contracts of `gauge` cite.
+pub mod Places
+pub mod Faults
+pub mod Sample
+pub mod Image
