@@ -1,0 +1,5 @@
+-- Laws that other crates cite.
+pub mod Numbers
+pub mod Parts
+pub mod Packing
+pub mod Shifts
