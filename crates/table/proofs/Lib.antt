@@ -1,0 +1,7 @@
+pub mod Walks
+pub mod Rules
+pub mod SearchSteps
+pub mod Searched
+pub mod Pairs
+pub mod Table
+pub mod ColumnLaws

@@ -1,0 +1,30 @@
+-- `table::field::high_of`: the row's pair of limits has the field `high`. Assumes nothing.
+use borrow.Author.Needs.{needs}
+use mathlib.Core.Path.{_≡_, ap, _∙_}
+use Prim.Native.Nat.{ℕ, _<_}
+use lib.ListN.{getD}
+use Rattle.table.proofs.Pairs.{pairs, maxima, pair-count}
+use Rattle.table.proofs.ColumnLaws.{high-by-pair, pair-there}
+use Rattle.table.proofs.field.high_of.Statement.{statement}
+use Rattle.table.proofs.field.high_of.Tie as tie
+
+array-read-wide8 : tie.Need-array-read-wide8
+array-read-wide8 c = search needs
+
+wide8-requires : tie.Need-wide8-requires
+wide8-requires c κs = search needs
+
+mul-result : tie.Need-mul-result
+unfolding pairs
+mul-result c = let h : c .wide8 .result < pair-count = rw (c .wide8 .ensures) (pair-there (c .before .args .row) (c .before .pre)) in search needs
+
+array-read-result : tie.Need-array-read-result
+unfolding pairs
+array-read-result c = let h : c .wide8 .result < pair-count = rw (c .wide8 .ensures) (pair-there (c .before .args .row) (c .before .pre)) in search needs
+
+returns : tie.Need-returns
+unfolding pairs maxima
+returns c = ap (λ (p : ℕ). getD maxima p 0) (c .wide8 .ensures) ∙ high-by-pair (c .before .args .row)
+
+pub high-of-spec : {M : Type 1} → statement M
+high-of-spec = tie.close (tie.spec array-read-wide8 wide8-requires mul-result array-read-result returns)

@@ -1,0 +1,32 @@
+-- THE WAY TO A ROW, as reading the whole table from the top gives it: the row, "index absent" or "subindex absent".
+-- Assumes nothing.
+use mathlib.Core.Bool.{Bool, true, false}
+use mathlib.Core.List.{List, [], _∷_}
+use Prim.Native.Nat.{ℕ, suc}
+use lib.Dec.{eqb}
+use Rattle.table.specs.Row.{Row}
+use Rattle.table.specs.Rows.{rows}
+use Rattle.table.specs.declared.Found.{Found}
+use Rattle.table.specs.declared.Found.the-variants.{At, NoIndex, NoSub}
+
+-- no row has the key: was its index seen?
+abbrev pub absence : Bool → Found
+absence true = NoSub
+absence false = NoIndex
+
+-- the row has the index or not, and the subindex or not: what is found here, and what the rest gives with the index seen and
+-- with the index not seen here
+abbrev pub choose : Bool → Bool → Found → Found → Found → Found
+choose true true here seen other = here
+choose true false here seen other = seen
+choose false s here seen other = other
+
+-- the first row of the list with the key; n is the number of the list's first row, and seen says whether an earlier row had
+-- the index
+unfoldable pub find-from : List Row → ℕ → Bool → ℕ → ℕ → Found
+find-from [] n seen i s = absence seen
+find-from (r ∷ rs) n seen i s =
+    choose (eqb (r .index) i) (eqb (r .sub) s) (At n) (find-from rs (suc n) true i s) (find-from rs (suc n) seen i s)
+
+unfoldable pub find-row : ℕ → ℕ → Found
+find-row i s = find-from rows 0 false i s

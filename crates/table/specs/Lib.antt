@@ -1,0 +1,6 @@
+pub mod Row
+pub mod Rows
+pub mod Walk
+pub mod Rule
+pub mod Find
+pub mod Columns

@@ -1,0 +1,61 @@
+-- A row of the object table, and the names of types and accesses. Assumes nothing.
+use Prim.Native.Nat.{ℕ}
+
+-- "index, subindex, type, access, NV mark, length, place in the values, limits, default". Limits and default are numbers, of a
+-- REAL its 32 bits; strings, the card and command words have none, and zeros stand there.
+pub record Row : Type 0 where
+  pub index : ℕ
+  pub sub : ℕ
+  pub kind : ℕ
+  pub access : ℕ
+  pub nv : ℕ
+  pub len : ℕ
+  pub place : ℕ
+  pub low : ℕ
+  pub high : ℕ
+  pub def : ℕ
+
+abbrev pub row : ℕ → ℕ → ℕ → ℕ → ℕ → ℕ → ℕ → ℕ → ℕ → ℕ → Row
+row i s k a n l p lo hi d =
+    record { index = i; sub = s; kind = k; access = a; nv = n; len = l; place = p; low = lo; high = hi; def = d }
+
+abbrev pub no-row : Row
+no-row = row 0 0 0 0 0 0 0 0 0 0
+
+-- the types: 0 to 5 are numbers (USINT is also BYTE and Enum), a string is bytes, the card is a view, a command word acts
+abbrev pub BOOL : ℕ
+BOOL = 0
+
+abbrev pub USINT : ℕ
+USINT = 1
+
+abbrev pub UINT : ℕ
+UINT = 2
+
+abbrev pub UDINT : ℕ
+UDINT = 3
+
+abbrev pub ULINT : ℕ
+ULINT = 4
+
+abbrev pub REAL : ℕ
+REAL = 5
+
+abbrev pub STRING : ℕ
+STRING = 6
+
+abbrev pub CARD : ℕ
+CARD = 7
+
+abbrev pub COMMAND : ℕ
+COMMAND = 8
+
+-- the accesses: read only, write only, both
+abbrev pub RO : ℕ
+RO = 1
+
+abbrev pub WO : ℕ
+WO = 2
+
+abbrev pub RW : ℕ
+RW = 3

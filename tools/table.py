@@ -1,0 +1,226 @@
+#!/usr/bin/env python3
+"""The object table, from the page that people read to the shapes that the proofs and the code read.
+
+docs/object-table.md is the only place where a row is written by hand. This tool works out each row's place,
+holds the rows to the table's rule (and names the row that breaks it, which the prover does not), and writes
+
+    docs/object-table.md           the column Place
+    crates/table/specs/Rows.antt   the rows, one line each
+    crates/table/src/columns.rt    the same as flat constant arrays
+    crates/table/proofs/Pairs.antt the pairs of limits that those arrays share
+    crates/rows/stdout             what the program `rows` must print
+
+With --check it writes nothing and fails if a file is not what it would write.
+"""
+import os
+import re
+import sys
+
+TOP = os.path.dirname(os.path.dirname(os.path.abspath(__file__)))
+PAGE = "docs/object-table.md"
+KINDS = ["BOOL", "USINT", "UINT", "UDINT", "ULINT", "REAL", "STRING", "CARD", "COMMAND"]
+WIDTH = {"BOOL": 1, "USINT": 1, "UINT": 2, "UDINT": 4, "ULINT": 8, "REAL": 4, "CARD": 33}
+ACCESS = {"RO": 1, "WO": 2, "RW": 3}
+VALUES, BLOCK_BITS = 1024, 4096
+
+
+def is_number(row):
+    return KINDS.index(row["kind"]) <= 5
+
+
+def rank(row, value):
+    """The place of a value in the order of its kind."""
+    if row["kind"] != "REAL":
+        return value
+    return 2**31 + value if value < 2**31 else 2**32 - value
+
+
+def read_rows(page):
+    rows = []
+    for line in page.split("\n"):
+        cells = [cell.strip() for cell in line.strip().strip("|").split("|")]
+        if len(cells) != 12 or not re.fullmatch("[0-9A-F]{4}", cells[0]):
+            continue
+        number = lambda cell: 0 if cell == "-" else int(cell, 16)
+        rows.append({
+            "index": int(cells[0], 16), "sub": int(cells[1], 16), "kind": cells[2], "access": cells[3],
+            "nv": int(cells[4] == "NV"), "len": int(cells[5]), "low": number(cells[7]), "high": number(cells[8]),
+            "def": number(cells[9]), "name": cells[10], "section": cells[11]})
+    return rows
+
+
+def held(row):
+    return 0 if row["kind"] in ("CARD", "COMMAND") else row["len"]
+
+
+def place_rows(rows):
+    place = 0
+    for row in rows:
+        row["place"] = place
+        place += held(row)
+    return place
+
+
+def broken_rules(rows, end):
+    """The table's rule, row by row, in words."""
+    previous = -1
+    for row in rows:
+        say = lambda words: "%04X:%02X %s" % (row["index"], row["sub"], words)
+        key = row["index"] * 256 + row["sub"]
+        if key <= previous:
+            yield say("does not come after the row before it")
+        previous = key
+        if row["kind"] not in KINDS or row["access"] not in ACCESS:
+            yield say("has an unknown type or access")
+            continue
+        if not 1 <= row["len"] <= 64:
+            yield say("has a length that is not 1 to 64")
+        if WIDTH.get(row["kind"], row["len"]) != row["len"]:
+            yield say("has a length that is not its type's")
+        if row["nv"] and row["kind"] in ("ULINT", "CARD", "COMMAND"):
+            yield say("is NV, and the saved block has no field for its type")
+        if is_number(row):
+            if not rank(row, row["low"]) <= rank(row, row["def"]) <= rank(row, row["high"]):
+                yield say("has limits out of order, or a default outside them")
+            if max(row["low"], row["high"], row["def"]) >= 256 ** row["len"]:
+                yield say("has a limit or a default that its length does not hold")
+    if end > VALUES:
+        yield "the values end at byte %d" % end
+    bits = 8 + sum((1 if r["kind"] == "BOOL" else 8 * r["len"]) for r in rows if r["nv"])
+    if bits > BLOCK_BITS:
+        yield "the saved block needs %d bits" % bits
+    if len(rows) > 511:
+        yield "there are %d rows" % len(rows)
+
+
+def shown(row, field):
+    return "%0*X" % (2 * row["len"], row[field]) if is_number(row) else "-"
+
+
+def place_shown(row):
+    return str(row["place"]) if held(row) else "-"
+
+
+def page_with_places(page, rows):
+    left = iter(rows)
+    lines = []
+    for line in page.split("\n"):
+        cells = line.split("|")
+        if len(cells) == 14 and re.fullmatch(" [0-9A-F]{4} ", cells[1]):
+            cells[7] = " %s " % place_shown(next(left))
+            line = "|".join(cells)
+        lines.append(line)
+    return "\n".join(lines)
+
+
+def printed(row):
+    return "%04X %02X %s %s %s %d %s %s %s %s\n" % (
+        row["index"], row["sub"], row["kind"], row["access"], "NV" if row["nv"] else "-", row["len"],
+        place_shown(row), shown(row, "low"), shown(row, "high"), shown(row, "def"))
+
+
+def rows_antt(rows):
+    lines = ["""-- THE OBJECT TABLE: one line for each row, in the order of docs/object-table.md, from which tools/table.py writes this file.
+-- index, subindex, type, access, NV mark, length, place, minimum, maximum, default. Assumes nothing.
+use mathlib.Core.List.{List, [], _∷_}
+use Prim.Native.Nat.{ℕ}
+use lib.ListN.{getD}
+use Rattle.table.specs.Row.{Row, row, no-row, BOOL, USINT, UINT, UDINT, ULINT, REAL, STRING, CARD, COMMAND, RO, RW}
+
+unfoldable pub rows : List Row
+rows =
+"""]
+    for row in rows:
+        lines.append("    row 0x%04X 0x%02X %s %s %d %d %d 0x%X 0x%X 0x%X ∷\n" % (
+            row["index"], row["sub"], row["kind"], row["access"], row["nv"], row["len"], row["place"],
+            row["low"], row["high"], row["def"]))
+    lines.append("""    []
+
+abbrev pub row-count : ℕ
+row-count = %d
+
+-- the row with a number; past the end a row of zeros
+abbrev pub at-row : ℕ → Row
+at-row r = getD rows r no-row
+""" % len(rows))
+    return "".join(lines)
+
+
+def limit_pairs(rows):
+    """The pairs of limits that occur, no limits first, and for each row the number of its pair."""
+    pairs = [(0, 0)]
+    for row in rows:
+        if (row["low"], row["high"]) not in pairs:
+            pairs.append((row["low"], row["high"]))
+    return pairs, [pairs.index((row["low"], row["high"])) for row in rows]
+
+
+def pairs_antt(rows):
+    pairs, numbers = limit_pairs(rows)
+    listed = lambda cells: " ∷ ".join(str(cell) for cell in cells) + " ∷ []"
+    text = """-- The limits as the code has them: few pairs of limits, and for each row the number of its pair. tools/table.py writes this
+-- file from docs/object-table.md. Assumes nothing.
+use mathlib.Core.List.{List, [], _∷_}
+use Prim.Native.Nat.{ℕ}
+"""
+    for name, cells in (("pairs", numbers), ("minima", [low for low, _ in pairs]), ("maxima", [high for _, high in pairs])):
+        text += "\nunfoldable pub %s : List ℕ\n%s = %s\n" % (name, name, listed(cells))
+    return text + "\nabbrev pub pair-count : ℕ\npair-count = %d\n" % len(pairs)
+
+
+def columns_rt(rows):
+    pairs, numbers = limit_pairs(rows)
+    columns = [
+        ("INDEX", "u16", [r["index"] for r in rows]),
+        ("SUB", "u8", [r["sub"] for r in rows]),
+        ("KIND", "u8", [KINDS.index(r["kind"]) for r in rows]),
+        ("ACCESS", "u8", [ACCESS[r["access"]] for r in rows]),
+        ("NV", "u8", [r["nv"] for r in rows]),
+        ("LEN", "u8", [r["len"] for r in rows]),
+        ("PLACE", "u16", [r["place"] for r in rows]),
+        ("LIMITS", "u8", numbers),
+        ("DEFAULT", "u32", [r["def"] for r in rows]),
+        ("MINIMUM", "u64", [low for low, _ in pairs]),
+        ("MAXIMUM", "u64", [high for _, high in pairs]),
+    ]
+    text = """// The object table as flat constant arrays. tools/table.py writes this file from docs/object-table.md.
+// LIMITS has for each row the number of its limits in MINIMUM and MAXIMUM: few pairs serve all rows, and a column that is
+// read is laid out on the stack, so columns are narrow.
+pub const ROWS: usize = %d;
+""" % len(rows)
+    for name, kind, cells in columns:
+        text += "\npub const %s: [%s; %d] = [\n%s];\n" % (name, kind, len(cells), "".join("    %d,\n" % c for c in cells))
+    return text
+
+
+def main():
+    page = open(os.path.join(TOP, PAGE)).read()
+    rows = read_rows(page)
+    end = place_rows(rows)
+    broken = list(broken_rules(rows, end))
+    if broken:
+        sys.exit("\n".join(broken))
+    files = {
+        PAGE: page_with_places(page, rows),
+        "crates/table/specs/Rows.antt": rows_antt(rows),
+        "crates/table/src/columns.rt": columns_rt(rows),
+        "crates/table/proofs/Pairs.antt": pairs_antt(rows),
+        "crates/rows/stdout": "".join(printed(row) for row in rows),
+    }
+    stale = []
+    for name, text in files.items():
+        path = os.path.join(TOP, name)
+        if os.path.exists(path) and open(path).read() == text:
+            continue
+        stale.append(name)
+        if "--check" not in sys.argv:
+            os.makedirs(os.path.dirname(path), exist_ok=True)
+            open(path, "w").write(text)
+    if "--check" in sys.argv and stale:
+        sys.exit("not what docs/object-table.md gives (run tools/table.py): " + ", ".join(stale))
+    print("%d rows, %d bytes of values, %d bits of the saved block" % (
+        len(rows), end, 8 + sum((1 if r["kind"] == "BOOL" else 8 * r["len"]) for r in rows if r["nv"])))
+
+
+if __name__ == "__main__":
+    main()
