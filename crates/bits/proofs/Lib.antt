@@ -3,3 +3,4 @@ pub mod Numbers
 pub mod Parts
 pub mod Packing
 pub mod Shifts
+pub mod Copying

@@ -1,14 +1,13 @@
 -- The laws of numbers as bits: lengths, a number and its bits there and back, bits that say bytes. Assumes nothing.
 use mathlib.Core.List.{List, [], _∷_, _++_, append-assoc, append-nil}
 use mathlib.Core.Path.{_≡_, refl, sym, ap, _∙_}
-use Prim.Native.Nat.{ℕ, zero, suc, _+_, _*_, _/_, _%_, _^_, _<_}
+use Prim.Native.Nat.{ℕ, zero, suc, _+_, _*_, _/_, _%_, _^_, _≤_, _<_}
 use native.Mathlib.Nat.{add-zero, zero-add, add-suc, suc-add, two-pow-succ, pow-zero, pow-suc, mul-assoc, mod-lt, mul-one, add-mul, zero-mul, pow-succ'}
 use native.Mathlib.Omega.{arith}
-use lib.ListN.{length, take, drop, length-append, replicate}
+use lib.ListN.{length, take, drop, length-append, length-drop}
 use lib.Pow.{pow-pos, split}
-use lib.Seq.{take-at, drop-at}
-use Rattle.bits.specs.Bits.{msb, bits, num-from, num, Small, Bytes}
-use Rattle.bits.specs.Fields.{decode}
+use lib.Seq.{take-at, drop-at, length-take-le, take-add}
+use Rattle.bits.specs.Bits.{msb, bits, num-from, num, packed, Small, Bytes}
 
 -- ---- lengths
 
@@ -122,14 +121,29 @@ pub num-lt : (bs : List ℕ) → Small bs → num bs < 2 ^ length bs
 unfolding num
 num-lt bs h = rw (zero-add (length bs)) at (num-lt-from 0 0 bs h (omega (arith, pow-zero 2)))
 
--- ---- bits say the bytes: a contract on bits leaves no second outcome
+-- ---- bits as bytes, and back: a contract on bits leaves no second outcome
 
-pub bytes-back : (s : List ℕ) → Bytes s → decode (replicate (length s) 8) (bits s) ≡ s
-unfolding decode bits
-bytes-back [] h = refl
-bytes-back (x ∷ xs) h =
-    rw (take-at (msb 8 x) (bits xs) 8 (length-msb 8 x), drop-at (msb 8 x) (bits xs) 8 (length-msb 8 x), num-msb 8 x (h 0), bytes-back xs (λ k. h (suc k)))
+pub length-packed : (n : ℕ) (bs : List ℕ) → length (packed n bs) ≡ n
+unfolding packed
+length-packed zero bs = refl
+length-packed (suc n) bs = ap suc (length-packed n (drop 8 bs))
+
+pub packed-bits : (s rest : List ℕ) → Bytes s → packed (length s) (bits s ++ rest) ≡ s
+unfolding packed bits
+packed-bits [] rest h = refl
+packed-bits (x ∷ xs) rest h =
+    rw (append-assoc (msb 8 x) (bits xs) rest, take-at (msb 8 x) (bits xs ++ rest) 8 (length-msb 8 x), drop-at (msb 8 x) (bits xs ++ rest) 8 (length-msb 8 x), num-msb 8 x (h 0), packed-bits xs rest (λ k. h (suc k)))
+
+pub bits-packed : (n : ℕ) (bs : List ℕ) → Small bs → 8 * n ≤ length bs → bits (packed n bs) ≡ take (8 * n) bs
+unfolding packed bits
+bits-packed zero bs h g = refl
+bits-packed (suc n) bs h g =
+    let e : 8 * suc n ≡ 8 + 8 * n = omega arith in
+    let m : msb 8 (num (take 8 bs)) ≡ take 8 bs = msb-num 8 (take 8 bs) (small-take 8 bs h) (length-take-le 8 bs (omega arith)) in
+    rw (m, bits-packed n (drop 8 bs) (small-drop 8 bs h) (omega (arith, length-drop 8 bs)), e) (sym (take-add 8 (8 * n) bs))
+
+pub bytes-of : (s : List ℕ) → Bytes s → packed (length s) (bits s) ≡ s
+bytes-of s h = ap (packed (length s)) (sym (append-nil (bits s))) ∙ packed-bits s [] h
 
 pub bits-same : (s t : List ℕ) → Bytes s → Bytes t → length s ≡ length t → bits s ≡ bits t → s ≡ t
-bits-same s t hs ht n e =
-    sym (bytes-back s hs) ∙ ap (λ (k : ℕ). decode (replicate k 8) (bits s)) n ∙ ap (decode (replicate (length t) 8)) e ∙ bytes-back t ht
+bits-same s t hs ht n e = sym (bytes-of s hs) ∙ ap (λ (k : ℕ). packed k (bits s)) n ∙ ap (packed (length t)) e ∙ bytes-of t ht

@@ -25,6 +25,11 @@ num bs = num-from 0 bs
 unfoldable pub field : List ℕ → ℕ → ℕ → ℕ
 field bs at w = num (take w (drop at bs))
 
+-- the n bytes that bits say
+unfoldable pub packed : ℕ → List ℕ → List ℕ
+packed zero bs = []
+packed (suc n) bs = num (take 8 bs) ∷ packed n (drop 8 bs)
+
 -- the byte x with v in the n bits above its e low ones
 unfoldable pub merged : ℕ → ℕ → ℕ → ℕ → ℕ
 merged x n e v = x / 2 ^ (n + e) * 2 ^ (n + e) + (v * 2 ^ e + x % 2 ^ e)

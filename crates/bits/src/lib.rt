@@ -1,10 +1,16 @@
 // Fields of bits on packed bytes, most significant bit first: bit k is bit 7 - k % 8 of byte k / 8.
 ghost use mathlib.Core.Path.{_≡_};
 ghost use Prim.Native.Nat.{_+_, _*_, _%_, _^_, _≤_, _<_};
-ghost use lib.ListN.{length, drop};
+ghost use lib.ListN.{length, take, drop};
 ghost use Rattle.wire.specs.Splice.{splice};
-ghost use Rattle.bits.specs.Bits.{bits, field, msb, merged};
+ghost use Rattle.bits.specs.Bits.{bits, field, msb, packed, merged};
 ghost use Rattle.bits.specs.Fields.{encode, decode, total, Packable, Narrow};
+
+fn wide(x: u8) -> u32
+    ensures { λ r. ⌜ (r ≡ x) × (r < 2 ^ 8) ⌝ }
+{
+    x as u32
+}
 
 // ---- A run of bits inside one byte.
 
@@ -112,5 +118,39 @@ pub fn unpack_fields(s: &[u8], at: usize, widths: &[u8], out: &mut [u32])
         out[i] = get_field(s, a, w);
         a += w;
         i += 1;
+    }
+}
+
+// ---- Bytes at any bit.
+
+// The n bytes of src from a place on, as the bits from bit at on.
+pub fn put_bytes(s: &mut [u8], at: usize, src: &[u8], from: usize, n: usize)
+    requires { ⌜ (from + n ≤ length (now src)) × (at + 8 * n ≤ 8 * length (now s)) × (at + 8 * n ≤ 4096) ⌝ }
+    ensures { λ r. ⌜ bits (now (s .exit)) ≡ splice (bits (now (s .entry))) at (bits (take n (drop from (now (src .entry))))) ⌝ }
+{
+    let mut q = from;
+    let mut left = n;
+    let mut a = at;
+    while 0 < left {
+        put_field(s, a, 8, wide(src[q]));
+        q += 1;
+        left -= 1;
+        a += 8;
+    }
+}
+
+// The bits from bit at on, as n bytes of dst from a place on.
+pub fn get_bytes(dst: &mut [u8], to: usize, n: usize, s: &[u8], at: usize)
+    requires { ⌜ (to + n ≤ length (now dst)) × (at + 8 * n ≤ 8 * length (now s)) × (at + 8 * n ≤ 4096) ⌝ }
+    ensures { λ r. ⌜ now (dst .exit) ≡ splice (now (dst .entry)) to (packed n (drop at (bits (now (s .entry))))) ⌝ }
+{
+    let mut q = to;
+    let mut left = n;
+    let mut a = at;
+    while 0 < left {
+        dst[q] = get_field(s, a, 8) as u8;
+        q += 1;
+        left -= 1;
+        a += 8;
     }
 }
