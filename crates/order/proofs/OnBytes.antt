@@ -1,5 +1,4 @@
 -- The order, on bytes: what the client reads in the answers is the trace that the board made.
-use Prim.Native.Nat.{ℕ}
 use mathlib.Core.Path.{_≡_, refl, sym, ap, ap₂, _∙_, subst}
 use mathlib.Core.List.{List, [], _∷_, map}
 use Rattle.order.specs.Talk.{Answer, Pending, idle}

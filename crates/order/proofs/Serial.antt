@@ -1,13 +1,13 @@
 -- THE ORDER: any mix of messages and samples comes to what the plain gauge does, one whole operation after the other. By one induction
 -- over the events, from what lies ahead of a read (`Ahead`) and what the client remembers of a write (`Tracks`).
-use Prim.Native.Nat.{ℕ, _+_, _≤_}
-use mathlib.Core.Path.{_≡_, refl, sym, ap, ap₂, _∙_, subst, subst⁻¹}
+use Prim.Native.Nat.{ℕ, _+_}
+use mathlib.Core.Path.{_≡_, refl, sym, ap, ap₂, _∙_, subst}
 use mathlib.Core.Logic.{_⊎_, inl, inr, _≢_}
 use mathlib.Core.Bool.{Bool, true, false, cond, not, Bool·beq}
-use mathlib.Core.List.{List, [], _∷_, _++_, map}
+use mathlib.Core.List.{List, [], _∷_, _++_}
 use mathlib.Core.Option.{Option, none, some, Option·map}
 use lib.Dec.{T, ltb, leb, leb→le}
-use lib.ListN.{length, take, drop}
+use lib.ListN.{length, take}
 use lib.Seq.{take-add, take-all}
 use Rattle.order.specs.Talk.{Said, Request, openRead, nextPart, expedited, openWrite, sendPart, giveUp, unknown, Answer, writeOpened, partTaken, wrongToggle, Read, value, denied, Sizes, sizes, closed, Outcome, stored, restarted, declined, Pending, idle, reading, writing, gave, yes! }
 use Rattle.order.specs.Gauge.{Gauge, tooLong, counted, say, judged, judgedBy, allowed, writeWhole, Op, read, write, readResult, writeResult, written, result, after, results, endOf}

@@ -2,29 +2,25 @@
 use Prim.Native.Nat.{ℕ, _+_, _/_, _≤_, _<_}
 use native.Mathlib.Omega.{arith}
 use mathlib.Core.Path.{_≡_, refl, sym, ap, ap₂, _∙_, subst}
-use mathlib.Core.Bool.{Bool, true, false, cond, not, Bool·beq, _&&_}
+use mathlib.Core.Bool.{Bool, true, false, cond, not, Bool·beq}
 use mathlib.Core.List.{List, [], _∷_, _++_, map}
 use mathlib.Core.Option.{Option, none, some}
 use lib.Dec.{T, ltb, leb, nleb→lt, nltb→le}
-use lib.ListN.{length, take, drop}
+use lib.ListN.{length}
 use Rattle.order.specs.Talk.{Request, openRead, nextPart, expedited, openWrite, sendPart, giveUp, unknown, Answer, writeOpened, partTaken, wrongToggle, Read, value, denied, Sizes, sizes, closed, Outcome, stored, restarted, declined, Pending, idle, reading, writing}
-use Rattle.order.specs.Gauge.{Gauge, tooLong, tooShort, narrowed, narrow, say, judged, allowed, writeWhole}
+use Rattle.order.specs.Gauge.{Gauge, tooLong, tooShort, narrow, say, judged, allowed, writeWhole}
 use Rattle.order.specs.Serve.{After, kept, wiped, left, Served, over, readOpening, givePart, conclude, takePart, writeOpening, serve, leave, step}
 use Rattle.order.specs.Observe.{follow}
 use Rattle.order.specs.Promise.{Spares, start, Calm}
 use Rattle.order.specs.Bytes.{heard, fed, meant, call, talk, reads, afterAll}
-use Rattle.table.specs.Rows.{row-count, at-row}
-use Rattle.table.specs.Find.{find-row}
-use Rattle.table.specs.declared.Found.{Found}
-use Rattle.table.specs.declared.Found.the-variants.{At}
 use Rattle.table.proofs.Table.{find-at}
 use Rattle.sdo.specs.declared.Key.{Key}
 use Rattle.sdo.specs.declared.Direction.{Direction}
 use Rattle.sdo.specs.declared.Direction.the-variants.{Reads, Writes}
 use Rattle.sdo.specs.declared.Transfer.{Transfer}
-use Rattle.sdo.specs.Eight.{askOf, answerOf}
+use Rattle.sdo.specs.Eight.{askOf}
 use Rattle.sdo.specs.Lines.{Entries, gauge, Sound, short, eight, Line, tool, service, Both, atLine, setLine, both, twoLines, eightCodec, BoardCall, TwoBoard, Demand3, Parts, partsAsked, got}
-use Rattle.sdo.specs.Records.{allZero, keyAt, numberOf, rowNumber, base, view, lay, Spoken, is-wiped, spoken, speak, RecordBoard, recordsAfter, recordCall, recordTalk, recordEnd, recordStart, RowOf, Rows, NoReset, RecordParts, recordGot, Demand3Records}
+use Rattle.sdo.specs.Records.{allZero, numberOf, rowNumber, base, view, lay, is-wiped, speak, RecordBoard, recordCall, recordTalk, recordEnd, recordStart, RowOf, Rows, NoReset, RecordParts, recordGot, Demand3Records}
 use Rattle.sdo.proofs.RecordLaws.{Fits, Valid, view-zero, view-lay, Whole, valid-view, whole-lay, whole-base}
 use Rattle.sdo.proofs.Demand.{demand3, finished-after, not-finished-before}
 

@@ -3,3 +3,5 @@ pub mod RoundTrip
 pub mod Demand
 pub mod RecordLaws
 pub mod DemandRecords
+pub mod ReplyLaws
+pub mod SpeakLaws

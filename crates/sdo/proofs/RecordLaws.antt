@@ -1,23 +1,21 @@
 -- A record and the transfer that it stands for: each is got back from the other.
 use Prim.Native.Nat.{ℕ, _+_, _≤_, _<_}
 use native.Mathlib.Omega.{arith}
-use mathlib.Core.Path.{_≡_, refl, sym, ap, ap₂, _∙_, subst}
-use mathlib.Core.Bool.{Bool, true, false, cond, not, _&&_}
-use mathlib.Core.List.{List, [], _∷_, _++_}
-use lib.Dec.{T, eqb, leb, ltb}
-use lib.ListN.{length, take, drop, replicate, length-append, length-drop, length-take}
+use mathlib.Core.Path.{_≡_, refl}
+use mathlib.Core.Bool.{Bool, true, false, cond, _&&_}
+use mathlib.Core.List.{List, _++_}
+use lib.Dec.{eqb, ltb}
+use lib.ListN.{length, take, drop, length-append, length-drop, length-take}
 use lib.Seq.{take-at}
 use borrow.Author.Tests.{lt-ltb, eq-eqb, le-leb, ltb-true, eqb-true, leb-true}
 use Rattle.order.specs.Talk.{Request, openRead, nextPart, expedited, openWrite, sendPart, giveUp, unknown, Pending, idle, reading, writing}
 use Rattle.table.specs.Rows.{row-count, at-row}
-use Rattle.table.specs.Find.{find-row}
-use Rattle.table.specs.declared.Found.the-variants.{At}
-use Rattle.table.proofs.Table.{row-rule, find-at}
+use Rattle.table.proofs.Table.{row-rule}
 use Rattle.sdo.specs.declared.Key.{Key}
 use Rattle.sdo.specs.declared.Direction.{Direction}
 use Rattle.sdo.specs.declared.Direction.the-variants.{Neither, Reads, Writes}
 use Rattle.sdo.specs.declared.Transfer.{Transfer}
-use Rattle.sdo.specs.Records.{allZero, keyAt, numberOf, rowNumber, allows, counts, pending, view, zeroAt, base, lay}
+use Rattle.sdo.specs.Records.{allZero, keyAt, allows, counts, pending, view, base, lay}
 
 and-true : (a b : Bool) → (a && b) ≡ true → (a ≡ true) × (b ≡ true)
 and-true true b e = (refl, e)

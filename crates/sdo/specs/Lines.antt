@@ -8,7 +8,7 @@ use mathlib.Core.Option.{Option}
 use lib.Dec.{T, leb}
 use lib.ListN.{length}
 use native.Mathlib.Nat.{le-refl}
-use Rattle.order.specs.Talk.{Read, value, denied, Sizes, closed, Outcome, declined, Pending, idle}
+use Rattle.order.specs.Talk.{Read, value, denied, Sizes, closed, Outcome, declined, idle}
 use Rattle.order.specs.Gauge.{Gauge}
 use Rattle.order.specs.Serve.{Form, Wires, Board}
 use Rattle.order.specs.Observe.{follow}

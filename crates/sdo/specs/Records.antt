@@ -1,13 +1,13 @@
 -- THE BOARD WITH ITS RECORDS BY VALUE: `speak` is one message of one line, on the store and that line's record; `recordCall` is what the
 -- board's calls are held to. The struct `Transfer` is the code's own: of a read `held` begins with the value, of a write with the bytes sent.
-use Prim.Native.Nat.{ℕ, _%_, _≤_}
+use Prim.Native.Nat.{ℕ, _%_}
 use mathlib.Core.Path.{_≡_}
 use mathlib.Core.Bool.{Bool, true, false, cond, _&&_}
 use mathlib.Core.List.{List, [], _∷_, _++_, map}
 use mathlib.Core.Option.{Option}
 use lib.Dec.{eqb, leb, ltb}
 use lib.ListN.{length, take, drop, replicate}
-use Rattle.order.specs.Talk.{Request, openRead, nextPart, expedited, openWrite, sendPart, giveUp, unknown, Read, value, Sizes, sizes, Pending, idle, reading, writing}
+use Rattle.order.specs.Talk.{Request, openRead, nextPart, expedited, openWrite, sendPart, giveUp, unknown, value, sizes, Pending, idle, reading, writing}
 use Rattle.order.specs.Gauge.{results, endOf}
 use Rattle.order.specs.Serve.{After, kept, wiped, left, Served, serve}
 use Rattle.order.specs.Observe.{Done, follow}

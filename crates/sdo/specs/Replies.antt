@@ -1,15 +1,15 @@
--- WHAT A PART OR AN OPENING COMES TO, by value: the pieces of `speak` that need no store. A `Reply` has the answer, the line's next record
--- and what is still to be done with the store.
+-- WHAT EACH MESSAGE COMES TO, by value: the pieces of `speak` that need no store. A `Reply` has the answer, the line's next record and what
+-- is still to be done with the store. Openings are given the entry's row: index to access are judged before.
 use Prim.Native.Nat.{ℕ, _+_}
 use mathlib.Core.Bool.{Bool, true, false, not, Bool·beq, _&&_}
 use mathlib.Core.List.{List, []}
-use mathlib.Core.Option.{Option}
 use lib.Dec.{leb, ltb}
 use lib.ListN.{length, take, drop, replicate}
 use Rattle.wire.specs.Splice.{splice}
+use Rattle.table.specs.Rows.{at-row}
 use Rattle.table.specs.Rule.{pick}
-use Rattle.order.specs.Talk.{Answer, opened, partGiven, writeOpened, partTaken, refused, wrongToggle, noTransfer, Outcome, stored, restarted, declined, Said, Sizes, sizes, closed}
-use Rattle.order.specs.Gauge.{tooLong, tooShort}
+use Rattle.order.specs.Talk.{Said, opened, partGiven, writeOpened, partTaken, refused, wrongToggle, noTransfer, Sizes, sizes, closed, Outcome, stored, restarted, declined}
+use Rattle.order.specs.Gauge.{tooLong, tooShort, narrowed, counted}
 use Rattle.sdo.specs.declared.Key.{Key}
 use Rattle.sdo.specs.declared.Direction.{Direction}
 use Rattle.sdo.specs.declared.Direction.the-variants.{Neither, Reads, Writes}
@@ -21,42 +21,55 @@ use Rattle.sdo.specs.Eight.{answerOf}
 use Rattle.sdo.specs.Lines.{Entries, short}
 use Rattle.sdo.specs.Records.{allZero, keyAt, counts, Spoken}
 
-unfoldable pub is-reads : Direction → Bool
-is-reads Neither = false
-is-reads Reads = true
-is-reads Writes = false
+-- the answer ends the transfer, which "leaves its record all zero"
+abbrev pub ending : List ℕ → Reply
+ending eight = record { eight = eight; next = allZero; act = Done }
 
-unfoldable pub is-writes : Direction → Bool
-is-writes Neither = false
-is-writes Reads = false
-is-writes Writes = true
+-- the transfer goes on
+abbrev pub going : List ℕ → Transfer → Reply
+going eight t = record { eight = eight; next = t; act = Done }
 
--- the answer ends the transfer: "leaves its record all zero"
-abbrev pub ending : Answer Key → Reply
-ending a = record { eight = answerOf a; next = allZero; act = Done }
+-- the first bytes held by t are to be committed to its row, all of its length; the answer stands if that says yes
+abbrev pub committing : List ℕ → Transfer → Reply
+committing eight t = record { eight = eight; next = t; act = Commit (t .row) (t .len) }
 
--- the answer of a transfer that goes on
-abbrev pub going : Answer Key → Transfer → Reply
-going a t = record { eight = answerOf a; next = t; act = Done }
+abbrev pub refusal : ℕ → ℕ → Reply
+refusal row c = ending (answerOf (refused (keyAt row) c))
 
--- NEXT PART OF A READ: the record after a part that was not the last
+-- ---- NEXT PART OF A READ
+
+unfoldable pub is-reading : Direction → Bool
+is-reading Neither = false
+is-reading Reads = true
+is-reading Writes = false
+
+-- the record after a part that was not the last
 abbrev pub turned : Transfer → Transfer
 turned t = record { held = t .held; row = t .row; direction = Reads; len = t .len; place = t .place + 7; toggle = not (t .toggle) }
 
-unfoldable pub partReply : Transfer → Reply
+abbrev pub partBytes : Transfer → Bool → List ℕ
+partBytes t last = answerOf (partGiven (t .toggle) (take 7 (drop (t .place) (take (t .len) (t .held)))) last)
+
+unfoldable pub givenReply : Transfer → Reply
 unfolding pick
-partReply t =
-    pick (leb (t .len) (t .place + 7))
-    (ending (partGiven (t .toggle) (take 7 (drop (t .place) (take (t .len) (t .held)))) true))
-    (going (partGiven (t .toggle) (take 7 (drop (t .place) (take (t .len) (t .held)))) false) (turned t))
+givenReply t = pick (leb (t .len) (t .place + 7)) (ending (partBytes t true)) (going (partBytes t false) (turned t))
 
 -- "specifier and matching transfer 05040001; toggle 05030000"
 unfoldable pub nextPartReply : Transfer → Bool → Reply
-unfolding partReply is-reads
+unfolding givenReply is-reading
 nextPartReply t u =
-    pick (is-reads (t .direction) && counts t) (pick (Bool·beq (t .toggle) u) (partReply t) (ending (wrongToggle (keyAt (t .row))))) (ending noTransfer)
+    pick (is-reading (t .direction) && counts t)
+    (pick (Bool·beq (t .toggle) u) (givenReply t) (ending (answerOf (wrongToggle (keyAt (t .row))))))
+    (ending (answerOf noTransfer))
 
--- NEXT PART OF A WRITE: the record with the part's bytes
+-- ---- NEXT PART OF A WRITE
+
+unfoldable pub is-writing : Direction → Bool
+is-writing Neither = false
+is-writing Reads = false
+is-writing Writes = true
+
+-- the record with the part's bytes
 abbrev pub grown : Transfer → List ℕ → Transfer
 grown t bytes =
     record {
@@ -68,43 +81,65 @@ grown t bytes =
       toggle = not (t .toggle);
     }
 
--- "a last part that ends short gives 06070013"; else the bytes held are to be committed, and the answer stands if that says yes
-unfoldable pub lastReply : Transfer → List ℕ → Reply
+-- "parts that overrun give 06070012 at that message, a last part that ends short gives 06070013"
+unfoldable pub takenReply : Transfer → List ℕ → Bool → Reply
 unfolding pick
-lastReply t bytes =
-    pick (ltb (t .place + length bytes) (t .len))
-    (ending (refused (keyAt (t .row)) tooShort))
-    (record { eight = answerOf (partTaken (t .toggle)); next = grown t bytes; act = Commit (t .row) (t .len) })
-
--- "parts that overrun give 06070012 at that message"
-unfoldable pub takeReply : Transfer → List ℕ → Bool → Reply
-unfolding lastReply
-takeReply t bytes last =
-    pick (ltb (t .len) (t .place + length bytes))
-    (ending (refused (keyAt (t .row)) tooLong))
-    (pick last (lastReply t bytes) (going (partTaken (t .toggle)) (grown t bytes)))
+takenReply t bytes last =
+    pick (ltb (t .len) (t .place + length bytes)) (refusal (t .row) tooLong)
+    (pick last
+    (pick (ltb (t .place + length bytes) (t .len)) (refusal (t .row) tooShort) (committing (answerOf (partTaken (t .toggle))) (grown t bytes)))
+    (going (answerOf (partTaken (t .toggle))) (grown t bytes)))
 
 unfoldable pub sendPartReply : Transfer → Bool → List ℕ → Bool → Reply
-unfolding takeReply is-writes
+unfolding takenReply is-writing
 sendPartReply t u bytes last =
-    pick (is-writes (t .direction) && counts t) (pick (Bool·beq (t .toggle) u) (takeReply t bytes last) (ending (wrongToggle (keyAt (t .row))))) (ending noTransfer)
+    pick (is-writing (t .direction) && counts t)
+    (pick (Bool·beq (t .toggle) u) (takenReply t bytes last) (ending (answerOf (wrongToggle (keyAt (t .row))))))
+    (ending (answerOf noTransfer))
 
--- OPENINGS. A read of the value of a row, the value standing at the start of 64 bytes
+-- ---- OPENINGS: "an opening starts from [all zero]"
+
 abbrev pub openedRecord : Direction → ℕ → List ℕ → ℕ → Transfer
 openedRecord d row held len = record { held = held; row = row; direction = d; len = len; place = 0; toggle = false }
 
+-- 64 bytes that begin with these, "rest zero"
+abbrev pub filled : List ℕ → List ℕ
+filled bytes = splice (replicate 64 0) 0 bytes
+
+-- a read of the value that the first len bytes held are: "Up to 4 bytes: .. with the value .. Longer: 41 with the length"
 unfoldable pub openReadReply : ℕ → List ℕ → ℕ → Reply
 unfolding pick
 openReadReply row held len =
     pick (short len)
-    (ending (opened (keyAt row) len (take len held) true))
-    (going (opened (keyAt row) len [] false) (openedRecord Reads row held len))
+    (ending (answerOf (opened (keyAt row) len (take len held) true)))
+    (going (answerOf (opened (keyAt row) len [] false)) (openedRecord Reads row held len))
 
--- a write in parts of a row
-abbrev pub openWriteReply : ℕ → ℕ → Reply
-openWriteReply row len = going (writeOpened (keyAt row)) (openedRecord Writes row (replicate 64 0) len)
+-- a write in parts, with the length announced or unknown
+unfoldable pub openWriteBy : ℕ → Sizes → Reply
+openWriteBy row (closed c) = refusal row c
+openWriteBy row (sizes low high) = going (answerOf (writeOpened (keyAt row))) (openedRecord Writes row (replicate 64 0) high)
 
--- WHAT THE REPLY COMES TO WITH THE STORE
+unfoldable pub openWriteReply : ℕ → Said → Reply
+unfolding openWriteBy narrowed
+openWriteReply row said = openWriteBy row (narrowed (at-row row .len) (at-row row .len) said)
+
+-- a write with the value in its opening: the first len of "bytes 4-7", to be committed
+abbrev pub valueReply : ℕ → ℕ → List ℕ → Reply
+valueReply row len m = committing (answerOf (writeOpened (keyAt row))) (openedRecord Writes row (filled (take len (drop 4 m))) len)
+
+unfoldable pub expeditedBy : ℕ → Sizes → List ℕ → Reply
+unfolding pick
+expeditedBy row (closed c) bytes = refusal row c
+expeditedBy row (sizes low high) bytes =
+    pick (ltb high (length bytes)) (refusal row tooLong)
+    (pick (ltb (length bytes) low) (refusal row tooShort) (committing (answerOf (writeOpened (keyAt row))) (openedRecord Writes row (filled bytes) high)))
+
+unfoldable pub expeditedReply : ℕ → Said → List ℕ → Reply
+unfolding expeditedBy narrowed counted
+expeditedReply row said bytes = expeditedBy row (narrowed (at-row row .len) (at-row row .len) said) (counted said (at-row row .len) bytes)
+
+-- ---- WHAT A REPLY COMES TO WITH THE STORE
+
 module _ (E : Entries) where
   -- a whole write is done: `agreed` is the answer that says so
   unfoldable pub concluded : E .Store → Key → List ℕ → Outcome (E .Store) → Spoken (E .Store)

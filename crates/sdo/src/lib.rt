@@ -1,6 +1,8 @@
 // The eight bytes of a message and of an answer, and the transfer that a line holds, all by value.
 pub mod answer;
 pub mod decode;
+pub mod opening;
+pub mod record;
 
 // An entry's name: index and subindex.
 pub struct Key {
