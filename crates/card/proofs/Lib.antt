@@ -1,0 +1,3 @@
+-- Laws of the trip card.
+pub mod Fields
+pub mod Made
