@@ -189,25 +189,27 @@ use mathlib.Core.List.{List, [], _∷_}
     for name, number, what in places(rows):
         text += "\n-- %s\nabbrev pub %s : ℕ\n%s = %d\n" % (what, name, name, number)
     text += """
--- an entry and its place
+-- an entry, its place and its length
 pub record Placed : Type 0 where
   pub index : ℕ
   pub sub : ℕ
   pub place : ℕ
+  pub len : ℕ
 
-abbrev pub placed : ℕ → ℕ → ℕ → Placed
-placed i s p = record { index = i; sub = s; place = p }
+abbrev pub placed : ℕ → ℕ → ℕ → ℕ → Placed
+placed i s p n = record { index = i; sub = s; place = p; len = n }
 
 unfoldable pub named-places : List Placed
 named-places =
 """
+    length = {(row["index"], row["sub"]): row["len"] for row in rows}
     for name, index, sub in PLACES:
-        text += "    placed 0x%04X 0x%02X %s ∷\n" % (index, sub, name)
+        text += "    placed 0x%04X 0x%02X %s %d ∷\n" % (index, sub, name, length[index, sub])
     for name, index, sub in RESPONSES:
-        text += "    placed 0x%04X 0x%02X (%s + 1) ∷\n" % (index, sub, name)
+        text += "    placed 0x%04X 0x%02X (%s + 1) %d ∷\n" % (index, sub, name, length[index, sub])
     for first, index in (("settings-1", 0x800E), ("settings-2", 0x800F)):
         for name, sub in SETTINGS:
-            text += "    placed 0x%04X 0x%02X (%s + %s) ∷\n" % (index, sub, first, name)
+            text += "    placed 0x%04X 0x%02X (%s + %s) %d ∷\n" % (index, sub, first, name, length[index, sub])
     return text + "    []\n"
 
 

@@ -115,53 +115,54 @@ high-hysteresis = 26
 abbrev pub low-hysteresis : ℕ
 low-hysteresis = 30
 
--- an entry and its place
+-- an entry, its place and its length
 pub record Placed : Type 0 where
   pub index : ℕ
   pub sub : ℕ
   pub place : ℕ
+  pub len : ℕ
 
-abbrev pub placed : ℕ → ℕ → ℕ → Placed
-placed i s p = record { index = i; sub = s; place = p }
+abbrev pub placed : ℕ → ℕ → ℕ → ℕ → Placed
+placed i s p n = record { index = i; sub = s; place = p; len = n }
 
 unfoldable pub named-places : List Placed
 named-places =
-    placed 0x2003 0x00 lock ∷
-    placed 0x6000 0x11 input-value ∷
-    placed 0x6005 0x01 reading-valid ∷
-    placed 0x6005 0x02 overrange ∷
-    placed 0x6005 0x03 underrange ∷
-    placed 0x600E 0x01 status-1 ∷
-    placed 0x600F 0x01 status-2 ∷
-    placed 0x800E 0x01 settings-1 ∷
-    placed 0x800F 0x01 settings-2 ∷
-    placed 0x9005 0x02 sensor-error ∷
-    placed 0x900E 0x01 trip-input-1 ∷
-    placed 0x900F 0x01 trip-input-2 ∷
-    placed 0xF380 0x00 summary-byte ∷
-    placed 0xF383 0x01 active-word ∷
-    placed 0xF390 0x00 latched-status ∷
-    placed 0xF393 0x01 latched-word ∷
-    placed 0xF641 0x01 trip-outputs ∷
-    placed 0xF9F6 0x00 power-on-time ∷
-    placed 0xFBF0 0x02 reset-status ∷
-    placed 0xFBF1 0x02 exception-status ∷
-    placed 0xFBF2 0x02 store-status ∷
-    placed 0xFBF4 0x02 load-status ∷
-    placed 0xFBF0 0x03 (reset-status + 1) ∷
-    placed 0xFBF1 0x03 (exception-status + 1) ∷
-    placed 0xFBF2 0x03 (store-status + 1) ∷
-    placed 0xFBF4 0x03 (load-status + 1) ∷
-    placed 0x800E 0x01 (settings-1 + high-enable) ∷
-    placed 0x800E 0x02 (settings-1 + low-enable) ∷
-    placed 0x800E 0x11 (settings-1 + high-level) ∷
-    placed 0x800E 0x14 (settings-1 + low-level) ∷
-    placed 0x800E 0x17 (settings-1 + high-hysteresis) ∷
-    placed 0x800E 0x18 (settings-1 + low-hysteresis) ∷
-    placed 0x800F 0x01 (settings-2 + high-enable) ∷
-    placed 0x800F 0x02 (settings-2 + low-enable) ∷
-    placed 0x800F 0x11 (settings-2 + high-level) ∷
-    placed 0x800F 0x14 (settings-2 + low-level) ∷
-    placed 0x800F 0x17 (settings-2 + high-hysteresis) ∷
-    placed 0x800F 0x18 (settings-2 + low-hysteresis) ∷
+    placed 0x2003 0x00 lock 1 ∷
+    placed 0x6000 0x11 input-value 4 ∷
+    placed 0x6005 0x01 reading-valid 1 ∷
+    placed 0x6005 0x02 overrange 1 ∷
+    placed 0x6005 0x03 underrange 1 ∷
+    placed 0x600E 0x01 status-1 1 ∷
+    placed 0x600F 0x01 status-2 1 ∷
+    placed 0x800E 0x01 settings-1 1 ∷
+    placed 0x800F 0x01 settings-2 1 ∷
+    placed 0x9005 0x02 sensor-error 2 ∷
+    placed 0x900E 0x01 trip-input-1 4 ∷
+    placed 0x900F 0x01 trip-input-2 4 ∷
+    placed 0xF380 0x00 summary-byte 1 ∷
+    placed 0xF383 0x01 active-word 4 ∷
+    placed 0xF390 0x00 latched-status 1 ∷
+    placed 0xF393 0x01 latched-word 4 ∷
+    placed 0xF641 0x01 trip-outputs 4 ∷
+    placed 0xF9F6 0x00 power-on-time 4 ∷
+    placed 0xFBF0 0x02 reset-status 1 ∷
+    placed 0xFBF1 0x02 exception-status 1 ∷
+    placed 0xFBF2 0x02 store-status 1 ∷
+    placed 0xFBF4 0x02 load-status 1 ∷
+    placed 0xFBF0 0x03 (reset-status + 1) 2 ∷
+    placed 0xFBF1 0x03 (exception-status + 1) 2 ∷
+    placed 0xFBF2 0x03 (store-status + 1) 2 ∷
+    placed 0xFBF4 0x03 (load-status + 1) 2 ∷
+    placed 0x800E 0x01 (settings-1 + high-enable) 1 ∷
+    placed 0x800E 0x02 (settings-1 + low-enable) 1 ∷
+    placed 0x800E 0x11 (settings-1 + high-level) 4 ∷
+    placed 0x800E 0x14 (settings-1 + low-level) 4 ∷
+    placed 0x800E 0x17 (settings-1 + high-hysteresis) 4 ∷
+    placed 0x800E 0x18 (settings-1 + low-hysteresis) 4 ∷
+    placed 0x800F 0x01 (settings-2 + high-enable) 1 ∷
+    placed 0x800F 0x02 (settings-2 + low-enable) 1 ∷
+    placed 0x800F 0x11 (settings-2 + high-level) 4 ∷
+    placed 0x800F 0x14 (settings-2 + low-level) 4 ∷
+    placed 0x800F 0x17 (settings-2 + high-hysteresis) 4 ∷
+    placed 0x800F 0x18 (settings-2 + low-hysteresis) 4 ∷
     []

@@ -2,5 +2,6 @@
 pub mod SpliceLaws
 pub mod LittleLaws
 pub mod RealLaws
+pub mod Writes
 pub mod Turns
 pub mod Stores

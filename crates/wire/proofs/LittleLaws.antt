@@ -1,8 +1,9 @@
 -- The laws of whole numbers in bytes, over the width: lengths, round trips, bounds, and a number read after a splice. Assumes nothing.
 use mathlib.Core.Bool.{true}
 use mathlib.Core.Path.{_≡_, refl, ap}
-use mathlib.Core.List.{List, [], _∷_}
+use mathlib.Core.List.{List, [], _∷_, _++_}
 use Prim.Native.Nat.{ℕ, zero, suc, _+_, _*_, _/_, _%_, _^_, _<_}
+use native.Mathlib.Nat.{mul-assoc}
 use native.Mathlib.Omega.{arith}
 use lib.Dec.{leb, ltb}
 use lib.Pow.{pow-add}
@@ -10,8 +11,8 @@ use lib.ListN.{length, getD}
 use lib.Seq.{take-nil, drop-nil}
 use borrow.Author.Tests.{ltb-true}
 use Rattle.wire.specs.Splice.{splice, apart}
-use Rattle.wire.specs.Little.{little, fromLittle, number}
-use Rattle.wire.proofs.SpliceLaws.{part-same, part-apart}
+use Rattle.wire.specs.Little.{little, fromLittle, number, put-number}
+use Rattle.wire.proofs.SpliceLaws.{splice-length, part-same, part-apart}
 
 -- ---- the bytes of a number
 
@@ -83,3 +84,28 @@ number-same l at n v room fit = rw (part-same l at (little n v) room n (length-l
 pub number-apart : (l : List ℕ) (at : ℕ) (vs : List ℕ) (q m : ℕ) → leb at (length l) ≡ true → apart at (length vs) q m ≡ true → number (splice l at vs) q m ≡ number l q m
 unfolding number
 number-apart l at vs q m room far = ap fromLittle (part-apart l at vs room q m far)
+
+-- the same for a number that was written
+pub number-off : (l : List ℕ) (at n v q m : ℕ) → leb at (length l) ≡ true → apart at n q m ≡ true → number (put-number l at n v) q m ≡ number l q m
+number-off l at n v q m room far =
+    number-apart l at (little n v) q m room (rw length-little far)
+
+pub put-length : (l : List ℕ) (at n v : ℕ) → leb (at + n) (length l) ≡ true → length (put-number l at n v) ≡ length l
+put-length l at n v room = splice-length l at (little n v) (rw length-little room)
+
+-- ---- two numbers, one behind the other
+
+carry : (x z : ℕ) → ((x + 256 * z) % 256 ≡ x % 256) × ((x + 256 * z) / 256 ≡ x / 256 + z)
+carry x z = (omega arith, omega arith)
+
+pub little-append : (a b x y : ℕ) → x < 2 ^ (8 * a) → little a x ++ little b y ≡ little (a + b) (x + 2 ^ (8 * a) * y)
+unfolding little
+little-append zero b x y h =
+    let e : 0 + b ≡ b = omega arith in
+    let f : x + 1 * y ≡ y = omega arith in
+    rw (e, f)
+little-append (suc a) b x y h =
+    let m : ℕ = 2 ^ (8 * a) in
+    let e : suc a + b ≡ suc (a + b) = omega arith in
+    let f : 256 * m * y ≡ 256 * (m * y) = mul-assoc 256 m y in
+    rw (e, wider, f, carry x (m * y) .0, carry x (m * y) .1) (ap (λ (r : List ℕ). x % 256 ∷ r) (little-append a b (x / 256) y (byte-fits x m (rw wider at h))))

@@ -9,9 +9,9 @@ use lib.Ieee.{Float, nan, inf, fin, binary32, ofBits, toBits, fits, div, isNan, 
 use lib.Ieee.Bits.{nanBits-is, nanBits-above, ofBits-toBits, toBits-lt}
 use borrow.Author.Tests.{lt-ltb, le-ltb}
 use Rattle.wire.specs.Splice.{splice, apart}
-use Rattle.wire.specs.Little.{little}
+use Rattle.wire.specs.Little.{little, put-number}
 use Rattle.wire.specs.Real.{real}
-use Rattle.wire.proofs.LittleLaws.{number-same, number-apart}
+use Rattle.wire.proofs.LittleLaws.{number-same, number-apart, number-off}
 
 -- ---- the patterns of NaN are those above an infinity's, the sign dropped
 
@@ -55,3 +55,8 @@ real-same l at x room fit =
 pub real-apart : (l : List ℕ) (at : ℕ) (vs : List ℕ) (q : ℕ) → leb at (length l) ≡ true → apart at (length vs) q 4 ≡ true → real (splice l at vs) q ≡ real l q
 unfolding real
 real-apart l at vs q room far = ap (ofBits binary32) (number-apart l at vs q 4 room far)
+
+-- the same for a number that was written
+pub real-off : (l : List ℕ) (at n v q : ℕ) → leb at (length l) ≡ true → apart at n q 4 ≡ true → real (put-number l at n v) q ≡ real l q
+unfolding real
+real-off l at n v q room far = ap (ofBits binary32) (number-off l at n v q 4 room far)
