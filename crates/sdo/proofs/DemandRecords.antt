@@ -2,6 +2,7 @@
 use Prim.Native.Nat.{ℕ, _+_, _/_, _≤_, _<_}
 use native.Mathlib.Omega.{arith}
 use mathlib.Core.Path.{_≡_, refl, sym, ap, ap₂, _∙_, subst}
+use mathlib.Core.Logic.{_⊎_}
 use mathlib.Core.Bool.{Bool, true, false, cond, not, Bool·beq}
 use mathlib.Core.List.{List, [], _∷_, _++_, map}
 use mathlib.Core.Option.{Option, none, some}
@@ -20,8 +21,8 @@ use Rattle.sdo.specs.declared.Direction.the-variants.{Reads, Writes}
 use Rattle.sdo.specs.declared.Transfer.{Transfer}
 use Rattle.sdo.specs.Eight.{askOf}
 use Rattle.sdo.specs.Lines.{Entries, gauge, Sound, short, eight, Line, tool, service, Both, atLine, setLine, both, twoLines, eightCodec, BoardCall, TwoBoard, Demand3, Parts, partsAsked, got}
-use Rattle.sdo.specs.Records.{allZero, numberOf, rowNumber, base, view, lay, is-wiped, speak, RecordBoard, recordCall, recordTalk, recordEnd, recordStart, RowOf, Rows, NoReset, RecordParts, recordGot, Demand3Records}
-use Rattle.sdo.proofs.RecordLaws.{Fits, Valid, view-zero, view-lay, Whole, valid-view, whole-lay, whole-base}
+use Rattle.sdo.specs.Records.{allZero, counts, numberOf, rowNumber, base, view, lay, is-wiped, speak, RecordBoard, recordCall, recordTalk, recordEnd, recordStart, RowOf, Rows, NoReset, RecordParts, recordGot, Demand3Records}
+use Rattle.sdo.proofs.RecordLaws.{Fits, Valid, view-zero, view-lay, Whole, valid-view, whole-lay, whole-base, lay-served}
 use Rattle.sdo.proofs.Demand.{demand3, finished-after, not-finished-before}
 
 module _ (E : Entries) where
@@ -125,6 +126,19 @@ module _ (E : Entries) where
         (valid-part (t .row) g k low high (length sent) (sent ++ bytes) (not u′) last (partTaken u′) (v .0) (v .1)) (λ _. tt)
     valid-serve g t x giveUp v = tt
     valid-serve g t x unknown v = tt
+
+    -- THEOREM: every message leaves its line's record a transfer that counts, or all zero; a record that counts as none is so cleared
+    module _ (g : E .Store) (t : Transfer) (m : List ℕ) (w : Whole t) where
+      leaves : Valid ((base t (askOf m)) .row) (left ((serve P eight g (view t) (askOf m)) .after))
+      leaves = valid-serve g t (view t) (askOf m) (valid-view t w)
+
+      pub next-served : (counts ((speak E g t m) .next) ≡ true) ⊎ ((speak E g t m) .next ≡ allZero)
+      unfolding speak
+      next-served = lay-served (base t (askOf m)) _ leaves
+
+      pub next-whole : Whole ((speak E g t m) .next)
+      unfolding speak
+      next-whole = whole-lay (base t (askOf m)) _ (whole-base t (askOf m) w) leaves
 
     -- ---- the two boards, call by call
 

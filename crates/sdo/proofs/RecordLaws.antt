@@ -2,6 +2,7 @@
 use Prim.Native.Nat.{ℕ, _+_, _≤_, _<_}
 use native.Mathlib.Omega.{arith}
 use mathlib.Core.Path.{_≡_, refl}
+use mathlib.Core.Logic.{_⊎_, inl, inr}
 use mathlib.Core.Bool.{Bool, true, false, cond, _&&_}
 use mathlib.Core.List.{List, _++_}
 use lib.Dec.{eqb, ltb}
@@ -110,3 +111,25 @@ whole-base t (openWrite k n bytes) w = refl
 whole-base t (sendPart u bytes last) w = w
 whole-base t giveUp w = refl
 whole-base t unknown w = refl
+
+-- what a message leaves: a record that counts, or one that is all zero
+pub lay-served : (t : Transfer) (x : Pending Key) → Valid (t .row) x → (counts (lay t x) ≡ true) ⊎ (lay t x ≡ allZero)
+unfolding lay
+lay-served t idle v = inr refl
+lay-served t (reading k bytes place u) v = inl (fits-counts (lay t (reading k bytes place u)) k v)
+lay-served t (writing k low high sent u) v = inl (fits-counts (lay t (writing k low high sent u)) k (v .1))
+
+-- a record whose numbers fit its bytes in the state
+pub record Small (t : Transfer) : Type 0 where
+  pub row-fits : t .row < 65536
+  pub len-fits : t .len < 256
+  pub place-fits : t .place < 256
+
+pub served-small : (t : Transfer) → (counts t ≡ true) ⊎ (t ≡ allZero) → Small t
+served-small t (inl c) =
+    let f = counts-fits t c in
+    let r : t .row < row-count = f .there in
+    let l : t .len ≤ 64 = at-most-64 f in
+    let p : t .place ≤ t .len = f .place-in in
+    record { row-fits = omega arith; len-fits = omega arith; place-fits = omega arith }
+served-small t (inr e) = rw e (record { row-fits = omega arith; len-fits = omega arith; place-fits = omega arith })

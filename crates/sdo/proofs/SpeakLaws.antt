@@ -8,7 +8,7 @@ use mathlib.Core.Bool.{Bool, true, false, cond, not, Bool·beq, _&&_}
 use mathlib.Core.List.{List, [], _++_, append-assoc}
 use mathlib.Core.Option.{Option}
 use lib.Dec.{leb, ltb}
-use lib.ListN.{length, take, drop, replicate, length-append, length-take, take-append-drop}
+use lib.ListN.{length, take, drop, getD, replicate, length-append, length-take, take-append-drop}
 use lib.Seq.{take-at, take-length}
 use borrow.Author.Tests.{le-ltb, ltb-false}
 use Rattle.wire.specs.Splice.{splice}
@@ -17,9 +17,11 @@ use Rattle.table.specs.Find.{find-row}
 use Rattle.table.specs.declared.Found.the-variants.{At}
 use Rattle.table.proofs.Table.{find-at}
 use Rattle.table.specs.Rule.{pick}
-use Rattle.order.specs.Talk.{Said, announced, unsaid, own, Request, openRead, nextPart, expedited, openWrite, sendPart, giveUp, unknown, Answer, opened, writeOpened, partTaken, refused, wrongToggle, noTransfer, Read, value, denied, Sizes, sizes, closed, Outcome, stored, restarted, declined, Pending, idle, reading, writing}
+use Rattle.order.specs.Talk.{Said, announced, unsaid, own, Request, openRead, nextPart, expedited, openWrite, sendPart, giveUp, unknown, Answer, opened, partGiven, writeOpened, partTaken, refused, wrongToggle, noTransfer, silent, Read, value, denied, Sizes, sizes, closed, Outcome, stored, restarted, declined, Pending, idle, reading, writing}
 use Rattle.order.specs.Gauge.{Gauge, tooLong, tooShort, narrowed, narrow, say, judged, judgedBy, writeWhole}
 use Rattle.order.specs.Serve.{Served, over, onwards, readOpening, givePart, readPart, conclude, takePart, writeOpening, writePart, serve}
+use Rattle.order.specs.Promise.{isAbort}
+use Rattle.order.proofs.Count.{aborts-drop}
 use Rattle.sdo.specs.declared.Key.{Key}
 use Rattle.sdo.specs.declared.Direction.{Direction}
 use Rattle.sdo.specs.declared.Direction.the-variants.{Neither, Reads, Writes}
@@ -289,3 +291,28 @@ module _ (E : Entries) where
             by-request (expedited k s bytes) e ∙ ap (λ (z : Sizes). spoken E allZero (conclude P g k (writeOpened k) (judgedBy P g k s bytes (narrow z s)))) r
             ∙ ap (λ (j : Key). spoken E allZero (conclude P g j (writeOpened j) (judgedBy P g j s bytes (narrowed (at-row row .len) (at-row row .len) s)))) (key-is g k row found)
             ∙ expedited-by g k row found s bytes
+
+  -- ---- an abort
+
+  first-of : (a : Answer Key) → getD (answerOf a) 0 0 ≡ 0x80 → isAbort a ≡ true
+  unfolding answerOf isAbort
+  first-of (opened k n bytes true) e = absurd (omega (arith, e))
+  first-of (opened k n bytes false) e = absurd (omega (arith, e))
+  first-of (partGiven true bytes true) e = absurd (omega (arith, e))
+  first-of (partGiven true bytes false) e = absurd (omega (arith, e))
+  first-of (partGiven false bytes true) e = absurd (omega (arith, e))
+  first-of (partGiven false bytes false) e = absurd (omega (arith, e))
+  first-of (writeOpened k) e = absurd (omega (arith, e))
+  first-of (partTaken true) e = absurd (omega (arith, e))
+  first-of (partTaken false) e = absurd (omega (arith, e))
+  first-of (refused k c) e = refl
+  first-of (wrongToggle k) e = refl
+  first-of noTransfer e = refl
+  first-of silent e = absurd (omega (arith, e))
+
+  -- THEOREM: "Every abort drops it too"; "An abort answer .. leaves values and block as they were"
+  pub abort-drops : (g : E .Store) (t : Transfer) (m : List ℕ) → getD ((speak E g t m) .bytes) 0 0 ≡ 0x80 → speak E g t m ≡ acted E g (ending ((speak E g t m) .bytes))
+  unfolding speak
+  abort-drops g t m e =
+      let s : Served P = serve P eight g (view t) (askOf m) in
+      ap (spoken E (base t (askOf m))) (aborts-drop P eight g (view t) (askOf m) (first-of (s .answer) e)) ∙ over-spoken g (base t (askOf m)) (s .answer)
