@@ -9,11 +9,11 @@ use mathlib.Core.Option.{Option, none, some}
 use lib.Dec.{T, ltb, leb, leb→le, nleb→lt}
 use lib.ListN.{length, take}
 use lib.Seq.{take-add, take-all}
-use Rattle.order.specs.Talk.{Request, openRead, nextPart, expedited, openWrite, sendPart, giveUp, unknown, Answer, writeOpened, partTaken, wrongToggle, Read, value, denied, Sizes, sizes, closed, Outcome, stored, restarted, declined, Pending, idle, reading, writing}
-use Rattle.order.specs.Gauge.{Gauge, say, judged, allowed, writeWhole, after}
+use Rattle.order.specs.Talk.{Request, openRead, nextPart, expedited, openWrite, sendPart, giveUp, unknown, Answer, writeOpened, partTaken, wrongToggle, Read, value, denied, Sizes, sizes, closed, Outcome, stored, restarted, declined, Pending, idle, reading, writing, refused, noTransfer, silent}
+use Rattle.order.specs.Gauge.{Gauge, tooLong, say, judged, allowed, writeWhole, after}
 use Rattle.order.specs.Serve.{Form, Wires, After, kept, wiped, left, Served, over, readOpening, givePart, conclude, takePart, writeOpening, serve, Board, Event, message, sample, leave, step, trace}
 use Rattle.order.specs.Observe.{gain, if-yes, onward, pick, follow}
-use Rattle.order.specs.Promise.{endsWrite, choose, Spares, Right, count, Calm, Ends}
+use Rattle.order.specs.Promise.{endsWrite, isAbort, choose, Spares, Right, count, Calm, Ends}
 use Rattle.order.proofs.Serial.{by-cond, own-line}
 
 beq-refl : (t : Bool) → Bool·beq t t ≡ true
@@ -68,6 +68,61 @@ module _ (P : Gauge) where
   untouched form g (writing k low high sent t) (sendPart u bytes last) h = still-part g k low high (sent ++ bytes) (not t) t u bytes last (Bool·beq t u) h
   untouched form g x giveUp h = refl
   untouched form g x unknown h = refl
+
+  -- ---- an abort drops the line's transfer and changes nothing
+
+  -- what an answer that is an abort leaves
+  abbrev pub Dropped : P .Store → Served P → Type 0
+  Dropped g s = isAbort (s .answer) ≡ true → s ≡ over P g (s .answer)
+
+  not-both : {A : Type 0} → _≡_ {A = Bool} false true → A
+  not-both e = let z : _≡_ {A = ℕ} 0 1 = cc in absurd (omega arith)
+
+  two-left : {g : P .Store} (d : Bool) (s s′ : Served P) → Dropped g s → Dropped g s′ → Dropped g (cond d s s′)
+  two-left true s s′ p q = p
+  two-left false s s′ p q = q
+
+  left-over : (g : P .Store) (a : Answer (P .Key)) → Dropped g (over P g a)
+  left-over g a e = refl
+
+  left-read-opening : (form : Form) (g : P .Store) (k : P .Key) (r : Read) → Dropped g (readOpening P form g k r)
+  unfolding readOpening isAbort
+  left-read-opening form g k (value bytes) = two-left (form .closes (length bytes)) _ _ not-both not-both
+  left-read-opening form g k (denied c) = left-over g (refused k c)
+
+  left-conclude : (g : P .Store) (k : P .Key) (y : Answer (P .Key)) (r : Outcome (P .Store)) → isAbort y ≡ false → Dropped g (conclude P g k y r)
+  unfolding conclude
+  left-conclude g k y (stored g′) n = λ e. not-both (sym n ∙ e)
+  left-conclude g k y (restarted g′) n = λ e. not-both (sym n ∙ e)
+  left-conclude g k y (declined c) n = left-over g (refused k c)
+
+  left-part : (g : P .Store) (k : P .Key) (low high : ℕ) (all : List ℕ) (t last : Bool) (y : Answer (P .Key)) → isAbort y ≡ false → Dropped g (takePart P g k low high all t last y)
+  unfolding takePart
+  left-part g k low high all t true y n = left-conclude g k y (judged P g k low high all) n
+  left-part g k low high all t false y n = two-left (ltb high (length all)) _ _ (left-over g (refused k tooLong)) (λ e. not-both (sym n ∙ e))
+
+  left-write-opening : (g : P .Store) (k : P .Key) (bytes : List ℕ) (z : Sizes) → Dropped g (writeOpening P g k bytes z)
+  unfolding writeOpening isAbort
+  left-write-opening g k bytes (sizes low high) = left-part g k low high bytes false false (writeOpened k) refl
+  left-write-opening g k bytes (closed c) = left-over g (refused k c)
+
+  -- THEOREM: "Every abort drops it too", and leaves the store as it was
+  pub aborts-drop : (form : Form) (g : P .Store) (x : Pending (P .Key)) (a : Request (P .Key)) → Dropped g (serve P form g x a)
+  unfolding serve isAbort
+  aborts-drop form g x (openRead k) = left-read-opening form g k (P .readWhole g k)
+  aborts-drop form g idle (nextPart u) = left-over g noTransfer
+  aborts-drop form g (reading k bytes p t) (nextPart u) =
+      two-left (Bool·beq t u) (givePart P form g k bytes p t) _ (two-left (leb (length bytes) (p + form .size)) _ _ not-both not-both) (left-over g (wrongToggle k))
+  aborts-drop form g (writing k low high sent t) (nextPart u) = left-over g noTransfer
+  aborts-drop form g x (expedited k s bytes) = left-conclude g k (writeOpened k) (writeWhole P g k s bytes) refl
+  aborts-drop form g x (openWrite k n bytes) = left-write-opening g k bytes (allowed P k (say n))
+  aborts-drop form g idle (sendPart u bytes last) = left-over g noTransfer
+  aborts-drop form g (reading k held p t) (sendPart u bytes last) = left-over g noTransfer
+  aborts-drop form g (writing k low high sent t) (sendPart u bytes last) =
+      two-left (Bool·beq t u) (takePart P g k low high (sent ++ bytes) (not t) last (partTaken t)) _ (left-part g k low high (sent ++ bytes) (not t) last (partTaken t) refl)
+      (left-over g (wrongToggle k))
+  aborts-drop form g x giveUp = left-over g silent
+  aborts-drop form g x unknown = left-over g noTransfer
 
   -- ---- the count of parts
 

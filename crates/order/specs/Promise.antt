@@ -5,7 +5,7 @@ use mathlib.Core.Bool.{Bool, true, false, cond, not}
 use mathlib.Core.List.{List, [], _∷_, map}
 use mathlib.Core.Option.{none, some}
 use lib.ListN.{length, take}
-use Rattle.order.specs.Talk.{Request, openRead, nextPart, expedited, openWrite, sendPart, giveUp, unknown, Answer, Pending, idle, Result}
+use Rattle.order.specs.Talk.{Request, openRead, nextPart, expedited, openWrite, sendPart, giveUp, unknown, Answer, opened, partGiven, writeOpened, partTaken, refused, wrongToggle, noTransfer, silent, Pending, idle, Result}
 use Rattle.order.specs.Gauge.{Gauge, Op, results, endOf}
 use Rattle.order.specs.Serve.{Form, Wires, After, kept, wiped, serve, Board, Event, message, sample, step, trace, run}
 use Rattle.order.specs.Observe.{if-yes, Done, pick, follow, observe, fresh}
@@ -27,6 +27,17 @@ endsWrite (openWrite k n bytes) t = false
 endsWrite (sendPart u bytes last) t = cond last (if-yes t true false) false
 endsWrite giveUp t = false
 endsWrite unknown t = false
+
+-- the aborts
+unfoldable pub isAbort : {K : Type 0} → Answer K → Bool
+isAbort (opened k n bytes all) = false
+isAbort (partGiven t bytes last) = false
+isAbort (writeOpened k) = false
+isAbort (partTaken t) = false
+isAbort (refused k c) = true
+isAbort (wrongToggle k) = true
+isAbort noTransfer = true
+isAbort silent = false
 
 abbrev pub choose : {A : Type 0} → Dec A → Type 0 → Type 0 → Type 0
 choose (yes a) X Y = X

@@ -2,6 +2,7 @@
 use Prim.Native.Nat.{ℕ, _+_, _/_, _≤_, _<_}
 use native.Mathlib.Omega.{arith}
 use mathlib.Core.Path.{_≡_, refl, sym, ap, ap₂, _∙_, subst}
+use mathlib.Core.Logic.{_⊎_}
 use mathlib.Core.Bool.{Bool, true, false, cond, not, Bool·beq}
 use mathlib.Core.List.{List, [], _∷_, _++_, map}
 use mathlib.Core.Option.{Option, none, some}
@@ -13,15 +14,13 @@ use Rattle.order.specs.Serve.{After, kept, wiped, left, Served, over, readOpeni
 use Rattle.order.specs.Observe.{follow}
 use Rattle.order.specs.Promise.{Spares, start, Calm}
 use Rattle.order.specs.Bytes.{heard, fed, meant, call, talk, reads, afterAll}
-use Rattle.table.proofs.Table.{find-at}
 use Rattle.sdo.specs.declared.Key.{Key}
-use Rattle.sdo.specs.declared.Direction.{Direction}
 use Rattle.sdo.specs.declared.Direction.the-variants.{Reads, Writes}
 use Rattle.sdo.specs.declared.Transfer.{Transfer}
 use Rattle.sdo.specs.Eight.{askOf}
 use Rattle.sdo.specs.Lines.{Entries, gauge, Sound, short, eight, Line, tool, service, Both, atLine, setLine, both, twoLines, eightCodec, BoardCall, TwoBoard, Demand3, Parts, partsAsked, got}
-use Rattle.sdo.specs.Records.{allZero, numberOf, rowNumber, base, view, lay, is-wiped, speak, RecordBoard, recordCall, recordTalk, recordEnd, recordStart, RowOf, Rows, NoReset, RecordParts, recordGot, Demand3Records}
-use Rattle.sdo.proofs.RecordLaws.{Fits, Valid, view-zero, view-lay, Whole, valid-view, whole-lay, whole-base}
+use Rattle.sdo.specs.Records.{allZero, counts, rowNumber, base, view, lay, is-wiped, speak, RecordBoard, recordCall, recordTalk, recordEnd, recordStart, RowOf, Rows, NoReset, RecordParts, recordGot, Demand3Records}
+use Rattle.sdo.proofs.RecordLaws.{Fits, Valid, view-zero, view-lay, Whole, valid-view, whole-lay, whole-base, lay-served, row-fits}
 use Rattle.sdo.proofs.Demand.{demand3, finished-after, not-finished-before}
 
 module _ (E : Entries) where
@@ -29,20 +28,6 @@ module _ (E : Entries) where
   P = gauge E
 
   -- ---- what is left after a message is a transfer that the record can hold
-
-  -- the entry's row, as the table finds it, allows the transfer
-  pub row-fits : (d : Direction) (k : Key) (n place : ℕ) → RowOf E d k n → place ≤ n → Fits d (rowNumber k) k n place
-  unfolding numberOf
-  row-fits d k n place r h =
-      let at = find-at (k .index) (k .sub) (r .row) (r .found) in
-      rw (r .found)
-      (record {
-        there = at .there;
-        key-is = ap₂ (λ (i s : ℕ). record { index = i; sub = s }) (sym (at .index-is)) (sym (at .sub-is));
-        allowed = r .allowed;
-        length-is = r .length-is;
-        place-in = h;
-      })
 
   module _ (R : Rows E) where
     valid-cond : (row : ℕ) (d : Bool) (s s′ : Served P) → Valid row (left (s .after)) → (T (not d) → Valid row (left (s′ .after))) → Valid row (left ((cond d s s′) .after))
@@ -76,7 +61,7 @@ module _ (E : Entries) where
 
     -- the sizes that an opening leaves: the row's length twice
     SizedFor : Key → Sizes → Type 0
-    SizedFor k (sizes low high) = (low ≡ high) × RowOf E Writes k high
+    SizedFor k (sizes low high) = (low ≡ high) × RowOf Writes k high
     SizedFor k (closed c) = Unit {0}
 
     sized : (k : Key) (n : Option ℕ) (z : Sizes) → E .rowOf k ≡ z → SizedFor k (narrow z (say n))
@@ -84,7 +69,7 @@ module _ (E : Entries) where
     sized k none (sizes low high) e = R .write-row k low high e
     sized k (some n) (sizes low high) e = go (ltb high n) (ltb n low) (nltb→le high n) (nltb→le n low)
       where
-        w : (low ≡ high) × RowOf E Writes k high
+        w : (low ≡ high) × RowOf Writes k high
         w = R .write-row k low high e
 
         go : (d c : Bool) → (T (not d) → n ≤ high) → (T (not c) → low ≤ n) → SizedFor k (cond d (closed tooLong) (cond c (closed tooShort) (sizes n n)))
@@ -125,6 +110,19 @@ module _ (E : Entries) where
         (valid-part (t .row) g k low high (length sent) (sent ++ bytes) (not u′) last (partTaken u′) (v .0) (v .1)) (λ _. tt)
     valid-serve g t x giveUp v = tt
     valid-serve g t x unknown v = tt
+
+    -- THEOREM: every message leaves its line's record a transfer that counts, or all zero; a record that counts as none is so cleared
+    module _ (g : E .Store) (t : Transfer) (m : List ℕ) (w : Whole t) where
+      leaves : Valid ((base t (askOf m)) .row) (left ((serve P eight g (view t) (askOf m)) .after))
+      leaves = valid-serve g t (view t) (askOf m) (valid-view t w)
+
+      pub next-served : (counts ((speak E g t m) .next) ≡ true) ⊎ ((speak E g t m) .next ≡ allZero)
+      unfolding speak
+      next-served = lay-served (base t (askOf m)) _ leaves
+
+      pub next-whole : Whole ((speak E g t m) .next)
+      unfolding speak
+      next-whole = whole-lay (base t (askOf m)) _ (whole-base t (askOf m) w) leaves
 
     -- ---- the two boards, call by call
 

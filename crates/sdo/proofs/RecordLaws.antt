@@ -1,7 +1,8 @@
 -- A record and the transfer that it stands for: each is got back from the other.
 use Prim.Native.Nat.{ℕ, _+_, _≤_, _<_}
 use native.Mathlib.Omega.{arith}
-use mathlib.Core.Path.{_≡_, refl}
+use mathlib.Core.Path.{_≡_, refl, sym, ap₂}
+use mathlib.Core.Logic.{_⊎_, inl, inr}
 use mathlib.Core.Bool.{Bool, true, false, cond, _&&_}
 use mathlib.Core.List.{List, _++_}
 use lib.Dec.{eqb, ltb}
@@ -10,12 +11,14 @@ use lib.Seq.{take-at}
 use borrow.Author.Tests.{lt-ltb, eq-eqb, le-leb, ltb-true, eqb-true, leb-true}
 use Rattle.order.specs.Talk.{Request, openRead, nextPart, expedited, openWrite, sendPart, giveUp, unknown, Pending, idle, reading, writing}
 use Rattle.table.specs.Rows.{row-count, at-row}
-use Rattle.table.proofs.Table.{row-rule}
+use Rattle.table.specs.Find.{find-row}
+use Rattle.table.specs.declared.Found.the-variants.{At}
+use Rattle.table.proofs.Table.{row-rule, find-at}
 use Rattle.sdo.specs.declared.Key.{Key}
 use Rattle.sdo.specs.declared.Direction.{Direction}
 use Rattle.sdo.specs.declared.Direction.the-variants.{Neither, Reads, Writes}
 use Rattle.sdo.specs.declared.Transfer.{Transfer}
-use Rattle.sdo.specs.Records.{allZero, keyAt, allows, counts, pending, view, base, lay}
+use Rattle.sdo.specs.Records.{allZero, keyAt, numberOf, rowNumber, allows, RowOf, counts, pending, view, base, lay}
 
 and-true : (a b : Bool) → (a && b) ≡ true → (a ≡ true) × (b ≡ true)
 and-true true b e = (refl, e)
@@ -44,6 +47,27 @@ counts-fits t e =
 pub fits-counts : (t : Transfer) (k : Key) → Fits (t .direction) (t .row) k (t .len) (t .place) → counts t ≡ true
 unfolding counts
 fits-counts t k f = rw (lt-ltb (t .row) row-count (f .there), f .allowed, eq-eqb (t .len) (at-row (t .row) .len) (f .length-is), le-leb (t .place) (t .len) (f .place-in))
+
+-- an entry and the row that the table finds for it
+pub found-key : (k : Key) (row : ℕ) → find-row (k .index) (k .sub) ≡ At row → k ≡ keyAt row
+found-key k row e =
+    let at = find-at (k .index) (k .sub) row e in
+    ap₂ (λ (i s : ℕ). record { index = i; sub = s }) (sym (at .index-is)) (sym (at .sub-is))
+
+pub found-number : (k : Key) (row : ℕ) → find-row (k .index) (k .sub) ≡ At row → rowNumber k ≡ row
+unfolding numberOf
+found-number k row e = rw e
+
+pub row-fits : (d : Direction) (k : Key) (n place : ℕ) → RowOf d k n → place ≤ n → Fits d (rowNumber k) k n place
+row-fits d k n place r h =
+    rw (found-number k (r .row) (r .found))
+    (record {
+      there = (find-at (k .index) (k .sub) (r .row) (r .found)) .there;
+      key-is = found-key k (r .row) (r .found);
+      allowed = r .allowed;
+      length-is = r .length-is;
+      place-in = h;
+    })
 
 -- a transfer that a record with this row can hold
 abbrev pub Valid : ℕ → Pending Key → Type 0
@@ -110,3 +134,25 @@ whole-base t (openWrite k n bytes) w = refl
 whole-base t (sendPart u bytes last) w = w
 whole-base t giveUp w = refl
 whole-base t unknown w = refl
+
+-- what a message leaves: a record that counts, or one that is all zero
+pub lay-served : (t : Transfer) (x : Pending Key) → Valid (t .row) x → (counts (lay t x) ≡ true) ⊎ (lay t x ≡ allZero)
+unfolding lay
+lay-served t idle v = inr refl
+lay-served t (reading k bytes place u) v = inl (fits-counts (lay t (reading k bytes place u)) k v)
+lay-served t (writing k low high sent u) v = inl (fits-counts (lay t (writing k low high sent u)) k (v .1))
+
+-- a record whose numbers fit its bytes in the state
+pub record Small (t : Transfer) : Type 0 where
+  pub row-fits : t .row < 65536
+  pub len-fits : t .len < 256
+  pub place-fits : t .place < 256
+
+pub served-small : (t : Transfer) → (counts t ≡ true) ⊎ (t ≡ allZero) → Small t
+served-small t (inl c) =
+    let f = counts-fits t c in
+    let r : t .row < row-count = f .there in
+    let l : t .len ≤ 64 = at-most-64 f in
+    let p : t .place ≤ t .len = f .place-in in
+    record { row-fits = omega arith; len-fits = omega arith; place-fits = omega arith }
+served-small t (inr e) = rw e (record { row-fits = omega arith; len-fits = omega arith; place-fits = omega arith })

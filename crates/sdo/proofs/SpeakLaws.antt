@@ -8,18 +8,19 @@ use mathlib.Core.Bool.{Bool, true, false, cond, not, Bool·beq, _&&_}
 use mathlib.Core.List.{List, [], _++_, append-assoc}
 use mathlib.Core.Option.{Option}
 use lib.Dec.{leb, ltb}
-use lib.ListN.{length, take, drop, replicate, length-append, length-take, take-append-drop}
+use lib.ListN.{length, take, drop, getD, replicate, length-append, length-take, take-append-drop}
 use lib.Seq.{take-at, take-length}
 use borrow.Author.Tests.{le-ltb, ltb-false}
 use Rattle.wire.specs.Splice.{splice}
 use Rattle.table.specs.Rows.{at-row}
 use Rattle.table.specs.Find.{find-row}
 use Rattle.table.specs.declared.Found.the-variants.{At}
-use Rattle.table.proofs.Table.{find-at}
 use Rattle.table.specs.Rule.{pick}
-use Rattle.order.specs.Talk.{Said, announced, unsaid, own, Request, openRead, nextPart, expedited, openWrite, sendPart, giveUp, unknown, Answer, opened, writeOpened, partTaken, refused, wrongToggle, noTransfer, Read, value, denied, Sizes, sizes, closed, Outcome, stored, restarted, declined, Pending, idle, reading, writing}
+use Rattle.order.specs.Talk.{Said, announced, unsaid, own, Request, openRead, nextPart, expedited, openWrite, sendPart, giveUp, unknown, Answer, opened, partGiven, writeOpened, partTaken, refused, wrongToggle, noTransfer, silent, Read, value, denied, Sizes, sizes, closed, Outcome, stored, restarted, declined, Pending, idle, reading, writing}
 use Rattle.order.specs.Gauge.{Gauge, tooLong, tooShort, narrowed, narrow, say, judged, judgedBy, writeWhole}
 use Rattle.order.specs.Serve.{Served, over, onwards, readOpening, givePart, readPart, conclude, takePart, writeOpening, writePart, serve}
+use Rattle.order.specs.Promise.{isAbort}
+use Rattle.order.proofs.Count.{aborts-drop}
 use Rattle.sdo.specs.declared.Key.{Key}
 use Rattle.sdo.specs.declared.Direction.{Direction}
 use Rattle.sdo.specs.declared.Direction.the-variants.{Neither, Reads, Writes}
@@ -27,9 +28,9 @@ use Rattle.sdo.specs.declared.Transfer.{Transfer}
 use Rattle.sdo.specs.declared.Reply.{Reply}
 use Rattle.sdo.specs.Eight.{askOf, answerOf}
 use Rattle.sdo.specs.Lines.{Entries, gauge, short, eight}
-use Rattle.sdo.specs.Records.{allZero, keyAt, numberOf, rowNumber, counts, pending, view, zeroAt, base, lay, spoken, speak}
+use Rattle.sdo.specs.Records.{allZero, keyAt, rowNumber, counts, pending, view, zeroAt, base, lay, spoken, speak}
 use Rattle.sdo.specs.Replies.{ending, going, committing, refusal, is-reading, is-writing, givenReply, nextPartReply, grown, takenReply, sendPartReply, openedRecord, filled, openReadReply, openWriteBy, openWriteReply, expeditedBy, expeditedReply, concluded, actedBy, acted}
-use Rattle.sdo.proofs.RecordLaws.{at-most-64, counts-fits, Whole}
+use Rattle.sdo.proofs.RecordLaws.{at-most-64, counts-fits, found-key, found-number, Whole}
 
 module _ (E : Entries) where
   abbrev P : Gauge
@@ -152,18 +153,9 @@ module _ (E : Entries) where
           two-ways t (Bool·beq (t .toggle) u) _ _ _ _ (taken-spoken bytes ((h refl) .0) ((h refl) .1) last) (over-spoken t (wrongToggle (keyAt (t .row))))
       send-by Writes false u bytes last h = over-spoken t noTransfer
 
-    -- ---- openings of an entry that has a row
+    -- ---- openings, of a row
 
-    module _ (k : Key) (row : ℕ) (found : find-row (k .index) (k .sub) ≡ At row) where
-      key-is : k ≡ keyAt row
-      key-is =
-          let at = find-at (k .index) (k .sub) row found in
-          ap₂ (λ (i s : ℕ). record { index = i; sub = s }) (sym (at .index-is)) (sym (at .sub-is))
-
-      number-is : rowNumber k ≡ row
-      unfolding numberOf
-      number-is = rw found
-
+    module _ (row : ℕ) where
       take-filled : (bytes : List ℕ) (n : ℕ) → length bytes ≡ n → take n (filled bytes) ≡ bytes
       unfolding splice
       take-filled bytes n e = take-at bytes (drop (0 + length bytes) (replicate 64 0)) n e
@@ -273,19 +265,44 @@ module _ (E : Entries) where
         unfolding serve base
         speak-open-read bytes e r =
             by-request (openRead k) e ∙ ap (λ (v : Read). spoken E (zeroAt (rowNumber k)) (readOpening P eight g k v)) r
-            ∙ ap₂ (λ (n : ℕ) (j : Key). spoken E (zeroAt n) (readOpening P eight g j (value bytes))) (number-is g k row found) (key-is g k row found) ∙ read-by g k row found bytes
+            ∙ ap₂ (λ (n : ℕ) (j : Key). spoken E (zeroAt n) (readOpening P eight g j (value bytes))) (found-number k row found) (found-key k row found) ∙ read-by g row bytes
 
         pub speak-open-write : (n : Option ℕ) → askOf m ≡ openWrite k n [] → E .rowOf k ≡ sizes (at-row row .len) (at-row row .len) → speak E g t m ≡ acted E g (openWriteReply row (say n))
         unfolding serve base narrow openWriteReply
         speak-open-write n e r =
             by-request (openWrite k n []) e ∙ ap (λ (z : Sizes). spoken E (zeroAt (rowNumber k)) (writeOpening P g k [] (narrow z (say n)))) r
-            ∙ ap₂ (λ (i : ℕ) (j : Key). spoken E (zeroAt i) (writeOpening P g j [] (narrowed (at-row row .len) (at-row row .len) (say n)))) (number-is g k row found) (key-is g k row found)
-            ∙ write-by g k row found (narrowed (at-row row .len) (at-row row .len) (say n))
+            ∙ ap₂ (λ (i : ℕ) (j : Key). spoken E (zeroAt i) (writeOpening P g j [] (narrowed (at-row row .len) (at-row row .len) (say n)))) (found-number k row found) (found-key k row found)
+            ∙ write-by g row (narrowed (at-row row .len) (at-row row .len) (say n))
 
         pub speak-expedited : (s : Said) (bytes : List ℕ) → askOf m ≡ expedited k s bytes → E .rowOf k ≡ sizes (at-row row .len) (at-row row .len)
             → speak E g t m ≡ acted E g (expeditedReply row s bytes)
         unfolding serve base narrow writeWhole
         speak-expedited s bytes e r =
             by-request (expedited k s bytes) e ∙ ap (λ (z : Sizes). spoken E allZero (conclude P g k (writeOpened k) (judgedBy P g k s bytes (narrow z s)))) r
-            ∙ ap (λ (j : Key). spoken E allZero (conclude P g j (writeOpened j) (judgedBy P g j s bytes (narrowed (at-row row .len) (at-row row .len) s)))) (key-is g k row found)
-            ∙ expedited-by g k row found s bytes
+            ∙ ap (λ (j : Key). spoken E allZero (conclude P g j (writeOpened j) (judgedBy P g j s bytes (narrowed (at-row row .len) (at-row row .len) s)))) (found-key k row found)
+            ∙ expedited-by g row s bytes
+
+  -- ---- an abort
+
+  first-of : (a : Answer Key) → getD (answerOf a) 0 0 ≡ 0x80 → isAbort a ≡ true
+  unfolding answerOf isAbort
+  first-of (opened k n bytes true) e = absurd (omega (arith, e))
+  first-of (opened k n bytes false) e = absurd (omega (arith, e))
+  first-of (partGiven true bytes true) e = absurd (omega (arith, e))
+  first-of (partGiven true bytes false) e = absurd (omega (arith, e))
+  first-of (partGiven false bytes true) e = absurd (omega (arith, e))
+  first-of (partGiven false bytes false) e = absurd (omega (arith, e))
+  first-of (writeOpened k) e = absurd (omega (arith, e))
+  first-of (partTaken true) e = absurd (omega (arith, e))
+  first-of (partTaken false) e = absurd (omega (arith, e))
+  first-of (refused k c) e = refl
+  first-of (wrongToggle k) e = refl
+  first-of noTransfer e = refl
+  first-of silent e = absurd (omega (arith, e))
+
+  -- THEOREM: "Every abort drops it too"; "An abort answer .. leaves values and block as they were"
+  pub abort-drops : (g : E .Store) (t : Transfer) (m : List ℕ) → getD ((speak E g t m) .bytes) 0 0 ≡ 0x80 → speak E g t m ≡ acted E g (ending ((speak E g t m) .bytes))
+  unfolding speak
+  abort-drops g t m e =
+      let s : Served P = serve P eight g (view t) (askOf m) in
+      ap (spoken E (base t (askOf m))) (aborts-drop P eight g (view t) (askOf m) (first-of (s .answer) e)) ∙ over-spoken g (base t (askOf m)) (s .answer)

@@ -46,6 +46,13 @@ allows Neither access = false
 allows Reads access = eqb (access % 2) 1
 allows Writes access = leb 2 access
 
+-- the entry has a row that allows the direction, of this length
+pub record RowOf (d : Direction) (k : Key) (n : ℕ) : Type 0 where
+  pub row : ℕ
+  pub found : find-row (k .index) (k .sub) ≡ At row
+  pub allowed : allows d (at-row row .access) ≡ true
+  pub length-is : n ≡ at-row row .len
+
 -- "A transfer record whose row is outside the table or does not allow its direction, whose length is not the row's or whose place is beyond the
 -- length counts as none; any other is served as it stands"
 unfoldable pub counts : Transfer → Bool
@@ -131,13 +138,7 @@ module _ (E : Entries) where
   abbrev pub recordStart : E .Store → RecordBoard
   recordStart g = record { store = g; records = both allZero }
 
-  -- what is asked of the table: a value that is read, and an entry that may be written, have a row that allows it and the row's length
-  pub record RowOf (d : Direction) (k : Key) (n : ℕ) : Type 0 where
-    pub row : ℕ
-    pub found : find-row (k .index) (k .sub) ≡ At row
-    pub allowed : allows d (at-row row .access) ≡ true
-    pub length-is : n ≡ at-row row .len
-
+  -- what is asked of the entries: a value that is read, and an entry that may be written, have a row that allows it and the row's length
   pub record Rows : Type 0 where
     pub read-row : (g : E .Store) (k : Key) (bytes : List ℕ) → E .readWhole g k ≡ value bytes → RowOf Reads k (length bytes)
     pub write-row : (k : Key) (low high : ℕ) → E .rowOf k ≡ sizes low high → (low ≡ high) × RowOf Writes k high
