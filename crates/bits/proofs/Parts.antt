@@ -1,35 +1,23 @@
 -- The laws of a field in packed bits: what a run of bits inside one byte says and changes, and fields made of runs. Assumes nothing.
-use mathlib.Core.Bool.{true}
 use mathlib.Core.List.{List, _∷_, _++_, append-assoc}
 use mathlib.Core.Path.{_≡_, refl, sym, ap, _∙_}
 use Prim.Native.Nat.{ℕ, suc, _+_, _-_, _*_, _/_, _%_, _^_, _≤_, _<_}
 use native.Mathlib.Nat.{mod-lt, lt-of-lt-of-le}
 use native.Mathlib.Omega.{arith}
 use lib.Arith.{digits-lt}
-use lib.Dec.{leb}
 use lib.ListN.{length, take, drop, getD, set, length-append, length-take}
 use lib.Pow.{pow-pos, shr-shr, mod-mod-pow, shr-lt, pow-add, pow-mono, field as pow-field}
 use lib.Seq.{take-at, drop-at, length-take-le, drop-drop, drop-cons, split-at, set-split, take-add}
 use Rattle.bits.proofs.Numbers.{length-msb, length-bits, bits-append, num-append, num-msb, num-shift, msb-cat, msb-split, small-bits, small-take, small-drop, num-lt}
 use Rattle.bits.specs.Bits.{msb, bits, num-from, num, field, merged}
-use Rattle.wire.proofs.SpliceLaws.{splice-mid, splice-then, part-length, part-same, part-apart}
-use Rattle.wire.specs.Splice.{splice, apart}
+use Rattle.wire.proofs.SpliceLaws.{splice-mid, splice-then, part-length}
+use Rattle.wire.specs.Splice.{splice}
 
 -- ---- a field
 
 pub field-mid : (A M Z : List ℕ) (at w : ℕ) → length A ≡ at → length M ≡ w → field (A ++ (M ++ Z)) at w ≡ num M
 unfolding field
 field-mid A M Z at w ha hm = rw (drop-at A (M ++ Z) at ha, take-at M Z w hm)
-
--- the field that was written
-pub field-same : (l : List ℕ) (at w v : ℕ) → leb at (length l) ≡ true → v < 2 ^ w → field (splice l at (msb w v)) at w ≡ v
-unfolding field
-field-same l at w v room h = ap num (part-same l at (msb w v) room w (length-msb w v)) ∙ num-msb w v h
-
--- a field that is apart from what was written
-pub field-apart : (l : List ℕ) (at : ℕ) (vs : List ℕ) → leb at (length l) ≡ true → (q w : ℕ) → apart at (length vs) q w ≡ true → field (splice l at vs) q w ≡ field l q w
-unfolding field
-field-apart l at vs room q w h = ap num (part-apart l at vs room q w h)
 
 pub field-lt : (xs : List ℕ) (at w : ℕ) → field (bits xs) at w < 2 ^ w
 unfolding field
@@ -157,13 +145,9 @@ module _ (s : List ℕ) (k : ℕ) (h : k < 8 * length s) where
   place : k ≡ 8 * (k / 8) + k % 8
   place = omega arith
 
-  pub bit-get : field (bits s) k 1 ≡ getD s (k / 8) 0 / 2 ^ (7 - k % 8) % 2
+  bit-get : field (bits s) k 1 ≡ getD s (k / 8) 0 / 2 ^ (7 - k % 8) % 2
   bit-get = ap (λ (j : ℕ). field (bits s) j 1) place ∙ bits-get s (k / 8) (k % 8) 1 (7 - k % 8) (omega arith) (omega arith)
 
-  pub bit-put : (b : ℕ) → b < 2 → bits (set s (k / 8) (merged (getD s (k / 8) 0) 1 (7 - k % 8) b)) ≡ splice (bits s) k (msb 1 b)
-  bit-put b hb =
-      bits-put s (k / 8) (k % 8) 1 (7 - k % 8) (omega arith) (omega arith) b hb
-      ∙ ap (λ (j : ℕ). splice (bits s) j (msb 1 b)) (sym place)
-
+-- THE ORDER OF BITS: bit k is bit 7 - k % 8 of byte k / 8
 pub bit-at : (s : List ℕ) (k : ℕ) → k < 8 * length s → getD (bits s) k 0 ≡ getD s (k / 8) 0 / 2 ^ (7 - k % 8) % 2
 bit-at s k h = sym (field-one (bits s) k (omega (arith, length-bits s))) ∙ bit-get s k h

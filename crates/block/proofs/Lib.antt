@@ -8,3 +8,4 @@ pub mod Whole
 pub mod RoundTrips
 pub mod Tables
 pub mod Theorems
+pub mod Examples

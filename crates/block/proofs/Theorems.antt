@@ -121,9 +121,9 @@ module _ (values block : List ℕ) (hb : Bytes values) (hn : length values ≡ 1
   load-leaves = loaded-is values ∙ copy-own values nv nv-keep hn
 
 -- a store that is refused writes nothing
-pub store-refused : (values block : List ℕ) → storable values ≡ false → stored values block ≡ block
+pub refused-leaves : (values block : List ℕ) → storable values ≡ false → stored values block ≡ block
 unfolding stored
-store-refused values block e = rw e
+refused-leaves values block e = rw e
 
 -- ---- store after load
 

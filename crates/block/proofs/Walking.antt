@@ -122,7 +122,7 @@ unfolding number
 fits values r k hb e =
     ⊎-elim
     (λ l. rw (width-bytes (r .kind) (r .len) l) (number-lt values (r .place) (r .len) hb))
-    (λ z.
+    (λ (z : r .kind ≤ BOOL).
     let b : r .kind ≡ BOOL = omega arith in
     rw (width-bool (r .kind) (r .len) b) (omega (arith, within-bool r (number values (r .place) (r .len)) b (k .bool-high b) e)))
     (lt-or-ge BOOL (r .kind))
