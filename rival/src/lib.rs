@@ -1,6 +1,9 @@
-//! The independent board behind the C names of include/gauge.h, so that the C test can be tried on it.
+//! The independent board behind the C signatures of include/gauge.h, as `rival_power_up` and so on: for the benchmark, and to try
+//! the C test on.
 
-use board_tests::model;
+#[allow(dead_code)]
+#[path = "../../tests/src/model/mod.rs"]
+mod model;
 
 /// # Safety
 /// A pointer and the length of what it points to; no pointer is needed for length 0.
@@ -15,14 +18,14 @@ unsafe fn lent<'a>(bytes: *mut u8, len: usize) -> &'a mut [u8] {
 /// # Safety
 /// As include/gauge.h says.
 #[no_mangle]
-pub unsafe extern "C" fn gauge_power_up(values: *mut u8, v: usize, block: *mut u8, b: usize, state: *mut u8, s: usize) -> u32 {
+pub unsafe extern "C" fn rival_power_up(values: *mut u8, v: usize, block: *mut u8, b: usize, state: *mut u8, s: usize) -> u32 {
     model::power_up(lent(values, v), lent(block, b), lent(state, s))
 }
 
 /// # Safety
 /// As include/gauge.h says.
 #[no_mangle]
-pub unsafe extern "C" fn gauge_message(
+pub unsafe extern "C" fn rival_message(
     line: u32,
     message: *const u8,
     m: usize,
@@ -41,7 +44,7 @@ pub unsafe extern "C" fn gauge_message(
 /// # Safety
 /// As include/gauge.h says.
 #[no_mangle]
-pub unsafe extern "C" fn gauge_sample(
+pub unsafe extern "C" fn rival_sample(
     pressure: f32,
     valid: u8,
     faults: u32,
@@ -57,6 +60,6 @@ pub unsafe extern "C" fn gauge_sample(
 /// # Safety
 /// As include/gauge.h says.
 #[no_mangle]
-pub unsafe extern "C" fn gauge_image(values: *const u8, v: usize, image: *mut u8, i: usize) -> u32 {
+pub unsafe extern "C" fn rival_image(values: *const u8, v: usize, image: *mut u8, i: usize) -> u32 {
     model::image(lent(values.cast_mut(), v), lent(image, i))
 }

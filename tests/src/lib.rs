@@ -3,6 +3,7 @@
 pub mod board;
 #[cfg(feature = "library")]
 pub mod boundary;
+pub mod independent;
 pub mod model;
 pub mod plain;
 pub mod random;
@@ -16,6 +17,6 @@ pub fn subject() -> boundary::Exported {
 
 /// The board under test: the exported calls, or the independent board where there is no library.
 #[cfg(not(feature = "library"))]
-pub fn subject() -> model::Model<model::fault::Sound> {
-    model::Model(model::fault::Sound)
+pub fn subject() -> independent::Model<model::fault::Sound> {
+    independent::Model(model::fault::Sound)
 }

@@ -2,7 +2,7 @@
 //! values, block and state, byte for byte.
 
 use board_tests::model::fault::Sound;
-use board_tests::model::Model;
+use board_tests::independent::Model;
 use board_tests::subject;
 use board_tests::trace::{difference, shrink, Op, Trace};
 use std::panic::{catch_unwind, AssertUnwindSafe};

@@ -3,7 +3,7 @@
 
 use board_tests::board::{Board, Memory};
 use board_tests::model::fault::{Broken, Mutant, Sound, MUTANTS};
-use board_tests::model::Model;
+use board_tests::independent::Model;
 use board_tests::plain::{follow, lines, Event, Observer, Plain};
 use board_tests::random::Random;
 use board_tests::subject;

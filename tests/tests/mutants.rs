@@ -2,7 +2,7 @@
 //! are compared on.
 
 use board_tests::model::fault::{Broken, Sound, MUTANTS};
-use board_tests::model::Model;
+use board_tests::independent::Model;
 use board_tests::trace::{difference, shrink, Trace};
 
 /// The comparison's first traces; a variant that these do not show is not found.

@@ -222,9 +222,9 @@ fn next_read<F: Fault>(f: F, message: &[u8; 8], record: &mut Record, values: &Va
 fn judge_length<F: Fault>(f: F, length: u32, row: &Row) -> Result<(), u32> {
     let (long, short) = if f.on(ShortBeforeLong) { (code::TOO_SHORT, code::TOO_LONG) } else { (code::TOO_LONG, code::TOO_SHORT) };
     match length.cmp(&(row.len as u32)) {
-        std::cmp::Ordering::Greater => Err(long),
-        std::cmp::Ordering::Less => Err(short),
-        std::cmp::Ordering::Equal => Ok(()),
+        core::cmp::Ordering::Greater => Err(long),
+        core::cmp::Ordering::Less => Err(short),
+        core::cmp::Ordering::Equal => Ok(()),
     }
 }
 
