@@ -22,33 +22,26 @@ pub const SIDES: [Side; 4] = [
 ];
 
 pub const LENGTH: usize = 33;
-const POINT: [usize; 2] = [4, 134];
 const HIGHEST: f32 = 1500.0;
 
 #[inline]
 pub fn bits32(values: &Values, at: usize) -> u32 {
-    u32::from_le_bytes([values[at], values[at + 1], values[at + 2], values[at + 3]])
+    let mut word = [0; 4];
+    word.copy_from_slice(&values[at..at + 4]);
+    u32::from_le_bytes(word)
 }
 
 #[inline]
-fn field(card: &[u8; LENGTH], bit: usize) -> u32 {
-    let (at, shift) = (bit / 8, bit % 8);
-    let word = u32::from_be_bytes([card[at], card[at + 1], card[at + 2], card[at + 3]]);
-    match shift {
-        0 => word,
-        _ => word << shift | card[at + 4] as u32 >> (8 - shift),
-    }
+fn be32(card: &[u8; LENGTH], at: usize) -> u32 {
+    u32::from_be_bytes([card[at], card[at + 1], card[at + 2], card[at + 3]])
 }
 
+/// The card's REAL fields in their order. Those of trip point 1 start six bits into the card, those of trip point 2 at byte 17.
 #[inline]
-fn set_field(card: &mut [u8; LENGTH], bit: usize, value: u32) {
-    let (at, shift) = (bit / 8, bit % 8);
-    let bytes = ((value as u64) << (32 - shift)).to_be_bytes();
-    let mut i = 0;
-    while i < 5 && at + i < LENGTH {
-        card[at + i] |= bytes[i];
-        i += 1;
-    }
+fn fields(card: &[u8; LENGTH]) -> [u32; 8] {
+    let first = |n: usize| be32(card, 4 * n) << 6 | card[4 * n + 4] as u32 >> 2;
+    let second = |n: usize| be32(card, 17 + 4 * n);
+    [first(0), first(1), first(2), first(3), second(0), second(1), second(2), second(3)]
 }
 
 #[inline]
@@ -60,23 +53,47 @@ fn order<F: Fault>(f: F, side: usize) -> usize {
     }
 }
 
+/// Side and sort of setting (0 level, 1 hysteresis) of each REAL field.
+#[inline]
+fn setting<F: Fault>(f: F, n: usize) -> usize {
+    let side = &SIDES[order(f, n / 2)];
+    if n % 2 == 0 {
+        side.level
+    } else {
+        side.hysteresis
+    }
+}
+
+#[inline]
+fn turned<F: Fault>(f: F, n: usize, value: u32) -> u32 {
+    if f.on(CardLittleEndian) && n % 2 == 0 {
+        value.swap_bytes()
+    } else {
+        value
+    }
+}
+
 pub fn pack<F: Fault>(f: F, values: &Values) -> [u8; LENGTH] {
-    let mut card = [0; LENGTH];
-    card[0] = 0x10;
-    for (point, start) in POINT.into_iter().enumerate() {
-        for half in 0..2 {
-            let side = &SIDES[order(f, 2 * point + half)];
-            let enable = values[side.enable];
-            if if f.on(CardLentEnable) { enable & 1 != 0 } else { enable != 0 } {
-                card[(start + half) / 8] |= 0x80 >> ((start + half) % 8);
-            }
-            let mut level = bits32(values, side.level);
-            if f.on(CardLittleEndian) {
-                level = level.swap_bytes();
-            }
-            set_field(&mut card, start + 2 + 64 * half, level);
-            set_field(&mut card, start + 34 + 64 * half, bits32(values, side.hysteresis));
+    let enable = |n: usize| {
+        let byte = values[SIDES[order(f, n)].enable];
+        if f.on(CardLentEnable) {
+            byte & 1
+        } else {
+            (byte != 0) as u8
         }
+    };
+    let mut card = [0; LENGTH];
+    // layout and trip point 1's enables: six bits that stand before each field of trip point 1
+    let mut before = 1 << 2 | (enable(0) << 1 | enable(1)) as u32;
+    for n in 0..4 {
+        let value = turned(f, n, bits32(values, setting(f, n)));
+        card[4 * n..4 * n + 4].copy_from_slice(&(before << 26 | value >> 6).to_be_bytes());
+        before = value & 0x3F;
+    }
+    card[16] = (before << 2) as u8 | enable(2) << 1 | enable(3);
+    for n in 4..8 {
+        let value = turned(f, n, bits32(values, setting(f, n)));
+        card[4 * n + 1..4 * n + 5].copy_from_slice(&value.to_be_bytes());
     }
     card
 }
@@ -90,15 +107,14 @@ pub fn judge<F: Fault>(f: F, card: &[u8; LENGTH]) -> Result<(), u32> {
             return found;
         }
     }
-    for start in POINT {
-        let bits = if f.on(CardLevelsFirst) { [2, 66, 34, 98] } else { [2, 34, 66, 98] };
-        for bit in bits {
-            let judged = limits::real(f, field(card, start + bit), 0.0, HIGHEST);
-            if judged.is_err() {
-                found = judged;
-                if !f.on(CardLastFieldDecides) {
-                    return found;
-                }
+    let fields = fields(card);
+    for n in 0..8 {
+        let n = if f.on(CardLevelsFirst) { [0, 2, 1, 3, 4, 6, 5, 7][n] } else { n };
+        let judged = limits::real(f, fields[n], 0.0, HIGHEST);
+        if judged.is_err() {
+            found = judged;
+            if !f.on(CardLastFieldDecides) {
+                return found;
             }
         }
     }
@@ -106,15 +122,12 @@ pub fn judge<F: Fault>(f: F, card: &[u8; LENGTH]) -> Result<(), u32> {
 }
 
 pub fn unpack<F: Fault>(f: F, card: &[u8; LENGTH], values: &mut Values) {
-    for (point, start) in POINT.into_iter().enumerate() {
-        for half in 0..2 {
-            let side = &SIDES[order(f, 2 * point + half)];
-            values[side.enable] = card[(start + half) / 8] >> (7 - (start + half) % 8) & 1;
-            let level = field(card, start + 2 + 64 * half);
-            let level = if f.on(CardLittleEndian) { level.swap_bytes() } else { level };
-            values[side.level..side.level + 4].copy_from_slice(&level.to_le_bytes());
-            let hysteresis = field(card, start + 34 + 64 * half);
-            values[side.hysteresis..side.hysteresis + 4].copy_from_slice(&hysteresis.to_le_bytes());
-        }
+    let enables = [card[0] >> 3 & 1, card[0] >> 2 & 1, card[16] >> 1 & 1, card[16] & 1];
+    for (n, enable) in enables.into_iter().enumerate() {
+        values[SIDES[order(f, n)].enable] = enable;
+    }
+    for (n, field) in fields(card).into_iter().enumerate() {
+        let place = setting(f, n);
+        values[place..place + 4].copy_from_slice(&turned(f, n, field).to_le_bytes());
     }
 }

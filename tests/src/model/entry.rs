@@ -26,6 +26,26 @@ pub enum After {
     Reset,
 }
 
+/// The first byte of a command word that is read.
+#[inline]
+fn word_read<F: Fault>(f: F, row: &Row) -> u8 {
+    let printed = row.index() == LOAD || row.index() == STORE && !f.on(StoreWordReadsZero);
+    (printed || f.on(CommandWordKept)) as u8
+}
+
+/// An entry of up to four bytes, with zeros behind it.
+#[inline]
+pub fn read_short<F: Fault>(f: F, row: &Row, values: &Values) -> u32 {
+    if row.kind == Kind::Command {
+        return word_read(f, row) as u32;
+    }
+    // entries lie before the values' last bytes, so four can be taken
+    let at = row.place as usize;
+    card::bits32(values, at) & u32::MAX >> (32 - 8 * row.len as u32)
+}
+
+const _: () = assert!(place(0xFBF4, 3) + 4 <= 1024);
+
 /// Copies an entry; `to` has the row's length.
 #[inline]
 pub fn read<F: Fault>(f: F, row: &Row, values: &Values, to: &mut [u8]) {
@@ -33,12 +53,7 @@ pub fn read<F: Fault>(f: F, row: &Row, values: &Values, to: &mut [u8]) {
         Kind::Card => to.copy_from_slice(&card::pack(f, values)),
         Kind::Command => {
             to.fill(0);
-            if row.index() == LOAD || row.index() == STORE && !f.on(StoreWordReadsZero) {
-                to[0] = 1;
-            }
-            if f.on(CommandWordKept) {
-                to[0] = 1;
-            }
+            to[0] = word_read(f, row);
         }
         _ => to.copy_from_slice(&values[row.place as usize..row.place as usize + to.len()]),
     }

@@ -288,7 +288,7 @@ pub const fn bits(row: &Row) -> usize {
     }
 }
 
-pub static FIELDS: [Field; count_nv()] = {
+pub const FIELDS: [Field; count_nv()] = {
     let mut fields = [Field { row: ALL[0], bit: 0 }; count_nv()];
     let (mut n, mut count, mut bit) = (0, 0, 8);
     while n < COUNT {

@@ -175,7 +175,7 @@ fn open_read<F: Fault>(f: F, message: &[u8; 8], record: &mut Record, values: &Va
     let mut answer = [0; 8];
     if len <= 4 {
         head(&mut answer, 0x43 | (4 - row.len) << 2, key);
-        entry::read(f, row, values, &mut answer[4..4 + len]);
+        answer[4..].copy_from_slice(&entry::read_short(f, row, values).to_le_bytes());
         record.fill(0);
     } else {
         head(&mut answer, 0x41, key);
