@@ -8,6 +8,8 @@ holds the rows to the table's rule (and names the row that breaks it, which the 
     crates/table/specs/Rows.antt   the rows, one line each
     crates/table/src/columns.rt    the same as flat constant arrays
     crates/table/proofs/Pairs.antt the pairs of limits that those arrays share
+    crates/table/specs/Places.antt the places that have names
+    crates/table/src/place.rt      the same as constants
     crates/rows/stdout             what the program `rows` must print
 
 With --check it writes nothing and fails if a file is not what it would write.
@@ -22,6 +24,26 @@ KINDS = ["BOOL", "USINT", "UINT", "UDINT", "ULINT", "REAL", "STRING", "CARD", "C
 WIDTH = {"BOOL": 1, "USINT": 1, "UINT": 2, "UDINT": 4, "ULINT": 8, "REAL": 4, "CARD": 33}
 ACCESS = {"RO": 1, "WO": 2, "RW": 3}
 VALUES, BLOCK_BITS = 1024, 4096
+
+# entries whose places the code knows by name
+PLACES = [
+    ("lock", 0x2003, 0x00), ("input-value", 0x6000, 0x11), ("reading-valid", 0x6005, 0x01), ("overrange", 0x6005, 0x02),
+    ("underrange", 0x6005, 0x03), ("status-1", 0x600E, 0x01), ("status-2", 0x600F, 0x01), ("settings-1", 0x800E, 0x01),
+    ("settings-2", 0x800F, 0x01), ("sensor-error", 0x9005, 0x02), ("trip-input-1", 0x900E, 0x01),
+    ("trip-input-2", 0x900F, 0x01), ("summary-byte", 0xF380, 0x00), ("active-word", 0xF383, 0x01),
+    ("latched-status", 0xF390, 0x00), ("latched-word", 0xF393, 0x01), ("trip-outputs", 0xF641, 0x01),
+    ("power-on-time", 0xF9F6, 0x00), ("reset-status", 0xFBF0, 0x02), ("exception-status", 0xFBF1, 0x02),
+    ("store-status", 0xFBF2, 0x02), ("load-status", 0xFBF4, 0x02)]
+
+# a command's response stands behind its status
+RESPONSES = [
+    ("reset-status", 0xFBF0, 0x03), ("exception-status", 0xFBF1, 0x03), ("store-status", 0xFBF2, 0x03),
+    ("load-status", 0xFBF4, 0x03)]
+
+# a trip point's settings, counted from the first of them: the same in 800E and 800F
+SETTINGS = [
+    ("high-enable", 0x01), ("low-enable", 0x02), ("high-level", 0x11), ("low-level", 0x14), ("high-hysteresis", 0x17),
+    ("low-hysteresis", 0x18)]
 
 
 def is_number(row):
@@ -146,6 +168,58 @@ at-row r = getD rows r no-row
     return "".join(lines)
 
 
+def places(rows):
+    """(name, number, what stands there) of each named place, and of each setting of a trip point."""
+    at = {(row["index"], row["sub"]): row["place"] for row in rows}
+    named = [(name, at[index, sub], "%04X:%02X" % (index, sub)) for name, index, sub in PLACES]
+    for name, sub in SETTINGS:
+        offset = at[0x800E, sub] - at[0x800E, 0x01]
+        if offset != at[0x800F, sub] - at[0x800F, 0x01]:
+            sys.exit("the settings of the two trip points are laid out differently")
+        named.append((name, offset, "800E:%02X and 800F:%02X, counted from subindex 01" % (sub, sub)))
+    return named
+
+
+def places_antt(rows):
+    text = """-- The places in the values that have names. tools/table.py writes this file; that they are the table's is computed in
+-- proofs/Placed.antt. Assumes nothing.
+use Prim.Native.Nat.{ℕ, _+_}
+use mathlib.Core.List.{List, [], _∷_}
+"""
+    for name, number, what in places(rows):
+        text += "\n-- %s\nabbrev pub %s : ℕ\n%s = %d\n" % (what, name, name, number)
+    text += """
+-- an entry, its place and its length
+pub record Placed : Type 0 where
+  pub index : ℕ
+  pub sub : ℕ
+  pub place : ℕ
+  pub len : ℕ
+
+abbrev pub placed : ℕ → ℕ → ℕ → ℕ → Placed
+placed i s p n = record { index = i; sub = s; place = p; len = n }
+
+unfoldable pub named-places : List Placed
+named-places =
+"""
+    length = {(row["index"], row["sub"]): row["len"] for row in rows}
+    for name, index, sub in PLACES:
+        text += "    placed 0x%04X 0x%02X %s %d ∷\n" % (index, sub, name, length[index, sub])
+    for name, index, sub in RESPONSES:
+        text += "    placed 0x%04X 0x%02X (%s + 1) %d ∷\n" % (index, sub, name, length[index, sub])
+    for first, index in (("settings-1", 0x800E), ("settings-2", 0x800F)):
+        for name, sub in SETTINGS:
+            text += "    placed 0x%04X 0x%02X (%s + %s) %d ∷\n" % (index, sub, first, name, length[index, sub])
+    return text + "    []\n"
+
+
+def place_rt(rows):
+    text = "// The places in the values that have names. tools/table.py writes this file.\n"
+    for name, number, what in places(rows):
+        text += "\n// %s\npub const %s: usize = %d;\n" % (what, name.replace("-", "_").upper(), number)
+    return text
+
+
 def limit_pairs(rows):
     """The pairs of limits that occur, no limits first, and for each row the number of its pair."""
     pairs = [(0, 0)]
@@ -205,6 +279,8 @@ def main():
         "crates/table/specs/Rows.antt": rows_antt(rows),
         "crates/table/src/columns.rt": columns_rt(rows),
         "crates/table/proofs/Pairs.antt": pairs_antt(rows),
+        "crates/table/specs/Places.antt": places_antt(rows),
+        "crates/table/src/place.rt": place_rt(rows),
         "crates/rows/stdout": "".join(printed(row) for row in rows),
     }
     stale = []

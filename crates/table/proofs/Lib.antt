@@ -5,3 +5,4 @@ pub mod Searched
 pub mod Pairs
 pub mod Table
 pub mod ColumnLaws
+pub mod Placed

@@ -1,6 +1,7 @@
 // The object table: one constant table, its fields by row number, and the way to a row.
-mod columns;
+pub mod columns;
 pub mod field;
+pub mod place;
 
 ghost use mathlib.Core.Path.{_≡_};
 ghost use Rattle.table.specs.Row.{Row};

@@ -1,0 +1,6 @@
+-- Laws that other crates cite.
+pub mod Numbers
+pub mod Parts
+pub mod Packing
+pub mod Shifts
+pub mod Copying

@@ -1,0 +1,3 @@
+-- What the contracts of `bits` cite.
+pub mod Bits
+pub mod Fields

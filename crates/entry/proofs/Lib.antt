@@ -1,0 +1,8 @@
+-- Laws of one row's entry.
+pub mod Real
+pub mod LimitsLaws
+mod Examples
+pub mod EntryLaws
+pub mod RowLaws
+pub mod Writes
+pub mod Entries

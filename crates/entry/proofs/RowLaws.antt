@@ -1,0 +1,152 @@
+-- What a row's rule gives its entry: how wide it is, how it is judged, and that its default is within its limits. They hold for any row that keeps the rule.
+use mathlib.Core.Path.{_≡_, sym, ap, _∙_}
+use mathlib.Core.List.{List, [], _∷_}
+use mathlib.Core.Logic.{⊎-elim}
+use Prim.Native.Nat.{ℕ, zero, suc, _+_, _*_, _-_, _%_, _^_, _<_, _≤_}
+use native.Mathlib.Omega.{arith}
+use lib.ListN.{length, take, drop, getD}
+use lib.Seq.{take-all}
+use borrow.Author.Tests.{le-leb, lt-leb, lt-ltb, le-ltb, eq-eqb}
+use Rattle.wire.specs.Little.{little, number, fromLittle}
+use Rattle.wire.proofs.LittleLaws.{Bytes, number-lt, from-little}
+use Rattle.table.specs.Row.{Row, BOOL, REAL, CARD}
+use Rattle.table.specs.Rule.{pick, held, width-of, rank, real-rank}
+use Rattle.table.proofs.Walks.{lt-or-ge}
+use Rattle.table.proofs.Rules.{RowRule}
+use Rattle.entry.specs.Limits.{Patterns, kind-verdict}
+use Rattle.entry.specs.Entry.{held-by, entry-of, default-of, number-verdict, row-verdict}
+use Rattle.entry.specs.declared.limits.Verdict.the-variants.{Within}
+use Rattle.entry.proofs.LimitsLaws.{kind-none, rank-within, within-high}
+
+-- ---- widths
+
+-- from the type and the length that the code has read
+pub held-from : (r : Row) {k n : ℕ} → k ≡ r .kind → n ≡ r .len → held-by k n ≡ held r
+unfolding held-by held
+held-from r k n = rw (k, n)
+
+pub held-is : (r : Row) → r .kind < CARD → held r ≡ r .len
+unfolding held pick
+held-is r h = simp (lt-leb CARD (r .kind) h)
+
+held-none : (r : Row) → CARD ≤ r .kind → held r ≡ 0
+unfolding held pick
+held-none r h = simp (le-leb CARD (r .kind) h)
+
+pub held-most : (r : Row) → RowRule r → held r ≤ 64
+held-most r u =
+    ⊎-elim (λ h. let m = u .most in omega (arith, held-is r h)) (λ g. omega (arith, held-none r g)) (lt-or-ge (r .kind) CARD)
+
+-- numbers have at most eight bytes, a REAL has four
+narrow : (n k : ℕ) → k ≤ 5 → getD (1 ∷ 1 ∷ 2 ∷ 4 ∷ 8 ∷ 4 ∷ n ∷ 33 ∷ []) k n ≤ 8
+narrow n zero h = omega arith
+narrow n (suc zero) h = omega arith
+narrow n (suc (suc zero)) h = omega arith
+narrow n (suc (suc (suc zero))) h = omega arith
+narrow n (suc (suc (suc (suc zero)))) h = omega arith
+narrow n (suc (suc (suc (suc (suc zero))))) h = omega arith
+narrow n (suc (suc (suc (suc (suc (suc k)))))) h = absurd (omega arith)
+
+pub number-narrow : (r : Row) → RowRule r → r .kind ≤ REAL → r .len ≤ 8
+unfolding width-of
+number-narrow r u h = let w = u .width in let n = narrow (r .len) (r .kind) h in omega arith
+
+pub real-width : (r : Row) → RowRule r → r .kind ≡ REAL → r .len ≡ 4
+unfolding width-of
+real-width r u e = u .width ∙ ap (λ (k : ℕ). getD (1 ∷ 1 ∷ 2 ∷ 4 ∷ 8 ∷ 4 ∷ r .len ∷ 33 ∷ []) k (r .len)) e
+
+-- ---- judging
+
+-- a REAL's limits are patterns of finite numbers
+real-patterns : (r : Row) → RowRule r → (v : ℕ) → r .kind ≡ REAL → v < 4294967296 → Patterns (r .low) (r .high) v
+real-patterns r u v e h =
+    let w = real-width r u e in
+    let n : r .kind ≤ REAL = omega arith in
+    let l : r .low < 2 ^ (8 * 4) = rw w at (u .low-fits n) in
+    let g : r .high < 2 ^ (8 * 4) = rw w at (u .high-fits n) in
+    let fl = u .finite-low e in
+    let fh = u .finite-high e in
+    record {
+      lowest = record { short = l; number = omega arith };
+      highest = record { short = g; number = omega arith };
+      short = h;
+    }
+
+-- for a type and limits that the code has read: what `judge_number` asks, and what its answer says of the row
+module _ (r : Row) {k l h : ℕ} (kind : k ≡ r .kind) (low : l ≡ r .low) (high : h ≡ r .high) (v : ℕ) where
+  pub judgeable : RowRule r → (r .kind ≡ REAL → v < 4294967296) → k ≡ REAL → Patterns l h v
+  judgeable u short e = rw (low, high) (real-patterns r u v (sym kind ∙ e) (short (sym kind ∙ e)))
+
+  pub verdict-from : kind-verdict k l h v ≡ number-verdict r v
+  unfolding number-verdict
+  verdict-from = rw (kind, low, high)
+
+pub real-short : (r : Row) → RowRule r → (l : List ℕ) (at : ℕ) → Bytes l → r .kind ≡ REAL → number l at (r .len) < 4294967296
+real-short r u l at b e = rw (real-width r u e) (number-lt l at 4 b)
+
+-- a row that is no number is within, whatever number is asked
+pub no-number : (r : Row) (v : ℕ) → REAL < r .kind → Within ≡ number-verdict r v
+unfolding number-verdict
+no-number r v h = kind-none (r .kind) (r .low) (r .high) v h
+
+-- bytes of the row's length are judged by their number
+pub bytes-verdict : (r : Row) (bytes : List ℕ) → length bytes ≡ r .len → number-verdict r (number bytes 0 (r .len)) ≡ row-verdict r bytes
+unfolding row-verdict number
+bytes-verdict r bytes e = ap (λ (l : List ℕ). number-verdict r (fromLittle l)) (take-all (r .len) bytes (omega arith))
+
+-- and so are those in the values
+pub entry-verdict : (r : Row) (values : List ℕ) → number-verdict r (number values (r .place) (r .len)) ≡ row-verdict r (entry-of r values)
+unfolding row-verdict number entry-of
+entry-verdict r values =
+    ⊎-elim
+    (λ h. ap (λ (n : ℕ). number-verdict r (fromLittle (take n (drop (r .place) values)))) (sym (held-is r (omega arith))))
+    (λ g. sym (no-number r _ g) ∙ no-number r _ g)
+    (lt-or-ge (r .kind) 6)
+
+-- ---- the default
+
+-- 32 bits between two finite patterns, by rank, are no NaN's
+between-finite : (low high v : ℕ) → low < 4294967296 → high < 4294967296 → v < 4294967296 → low % 2147483648 < 2139095040 → high % 2147483648 < 2139095040
+    → real-rank low ≤ real-rank v → real-rank v ≤ real-rank high → v % 2147483648 ≤ 2139095040
+unfolding real-rank pick
+between-finite low high v l h w fl fh a b =
+    ⊎-elim
+    (λ lv. ⊎-elim
+    (λ lh. let q : 2147483648 + v ≤ 2147483648 + high = simp (lt-ltb v 2147483648 lv, lt-ltb high 2147483648 lh) at b in omega arith)
+    (λ gh. let q : 2147483648 + v ≤ 4294967296 - high = simp (lt-ltb v 2147483648 lv, le-ltb high 2147483648 gh) at b in omega arith)
+    (lt-or-ge high 2147483648))
+    (λ gv. ⊎-elim
+    (λ ll. let q : 2147483648 + low ≤ 4294967296 - v = simp (le-ltb v 2147483648 gv, lt-ltb low 2147483648 ll) at a in omega arith)
+    (λ gl. let q : 4294967296 - low ≤ 4294967296 - v = simp (le-ltb v 2147483648 gv, le-ltb low 2147483648 gl) at a in omega arith)
+    (lt-or-ge low 2147483648))
+    (lt-or-ge v 2147483648)
+
+pub default-within : (r : Row) → RowRule r → r .kind ≤ REAL → number-verdict r (r .def) ≡ Within
+unfolding number-verdict rank pick
+default-within r u h =
+    rank-within (r .kind) (r .low) (r .high) (r .def) h
+    (λ e. real-patterns r u (r .def) e (short e))
+    (λ e. let p = real-patterns r u (r .def) e (short e) in
+    between-finite (r .low) (r .high) (r .def) (p .lowest .short) (p .highest .short) (short e) (u .finite-low e) (u .finite-high e)
+    (simp (eq-eqb (r .kind) REAL e) at (u .def-low)) (simp (eq-eqb (r .kind) REAL e) at (u .def-high)))
+    (u .def-low) (u .def-high)
+  where
+    short : r .kind ≡ REAL → r .def < 4294967296
+    short e = rw (real-width r u e) at (u .def-fits (omega arith))
+
+-- so the bytes of the default are within, whatever the row
+pub default-judged : (r : Row) → RowRule r → row-verdict r (default-of r) ≡ Within
+unfolding row-verdict default-of
+default-judged r u =
+    ⊎-elim
+    (λ h. let k : r .kind ≤ REAL = omega arith in
+    ap (λ (n : ℕ). number-verdict r (fromLittle (little n (r .def)))) (held-is r (omega arith))
+    ∙ ap (number-verdict r) (from-little (r .len) (r .def) (u .def-fits k))
+    ∙ default-within r u k)
+    (λ g. sym (no-number r _ g))
+    (lt-or-ge (r .kind) 6)
+
+-- a BOOL row that is within its limits holds 0 or 1
+pub bool-within : (r : Row) (v : ℕ) → r .kind ≡ BOOL → r .high ≤ 1 → number-verdict r v ≡ Within → v ≤ 1
+unfolding number-verdict
+bool-within r v k h e = let w = within-high (r .kind) (r .low) (r .high) v (omega arith) e in omega arith

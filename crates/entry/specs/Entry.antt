@@ -1,0 +1,47 @@
+-- One row's entry in the values: what it reads as, what storing and its default make of the values, and its judgement.
+use mathlib.Core.List.{List, [], _∷_}
+use Prim.Native.Nat.{ℕ}
+use lib.Dec.{leb}
+use lib.ListN.{take, drop, replicate}
+use Rattle.wire.specs.Splice.{splice}
+use Rattle.wire.specs.Little.{little, fromLittle}
+use Rattle.table.specs.Row.{Row, CARD}
+use Rattle.table.specs.Rule.{pick, held}
+use Rattle.entry.specs.Limits.{kind-verdict}
+use Rattle.entry.specs.declared.limits.Verdict.{Verdict}
+
+-- `held`, by the type and the length alone
+unfoldable pub held-by : ℕ → ℕ → ℕ
+held-by kind len = pick (leb CARD kind) 0 len
+
+-- a row's bytes in the values; the card and the command words have none ("have no place")
+unfoldable pub entry-of : Row → List ℕ → List ℕ
+entry-of r values = take (held r) (drop (r .place) values)
+
+-- an entry "held as it is now": 64 bytes, the row's first, then zeros
+unfoldable pub copied : Row → List ℕ → List ℕ
+copied r values = splice (replicate 64 0) 0 (entry-of r values)
+
+-- the values with these bytes as the row's
+unfoldable pub stored : Row → List ℕ → List ℕ → List ℕ
+stored r values bytes = splice values (r .place) bytes
+
+-- a row's default ("Whole numbers and REAL are little-endian"; a string's is zeros)
+unfoldable pub default-of : Row → List ℕ
+default-of r = little (held r) (r .def)
+
+unfoldable pub defaulted : Row → List ℕ → List ℕ
+defaulted r values = stored r values (default-of r)
+
+-- "defaults everywhere", in table order
+unfoldable pub defaults : List Row → List ℕ → List ℕ
+defaults [] values = values
+defaults (r ∷ rs) values = defaults rs (defaulted r values)
+
+-- a number against a row's limits
+unfoldable pub number-verdict : Row → ℕ → Verdict
+number-verdict r v = kind-verdict (r .kind) (r .low) (r .high) v
+
+-- bytes against a row's limits
+unfoldable pub row-verdict : Row → List ℕ → Verdict
+row-verdict r bytes = number-verdict r (fromLittle bytes)

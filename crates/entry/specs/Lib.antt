@@ -1,0 +1,3 @@
+-- What one row's entry means in the values.
+pub mod Limits
+pub mod Entry

@@ -1,0 +1,158 @@
+// What one row's entry means in the values: its judgement, reading, storing and default.
+pub mod limits;
+
+use limits::Verdict;
+ghost use mathlib.Core.Path.{_≡_};
+ghost use Prim.Native.Nat.{_+_, _<_, _≤_};
+ghost use lib.ListN.{length};
+ghost use Rattle.wire.specs.Little.{number};
+ghost use Rattle.table.specs.Row.{Row, REAL};
+ghost use Rattle.table.specs.Rows.{rows, row-count, at-row};
+ghost use Rattle.table.specs.Rule.{held};
+ghost use Rattle.table.specs.Columns.{column};
+ghost use Rattle.entry.specs.Entry.{held-by, entry-of, copied, stored, defaulted, defaults, number-verdict, row-verdict};
+
+fn wide8(x: u8) -> usize
+    ensures { λ r. ⌜ r ≡ x ⌝ }
+{
+    x as usize
+}
+
+fn wide16(x: u16) -> usize
+    ensures { λ r. ⌜ r ≡ x ⌝ }
+{
+    x as usize
+}
+
+fn wide32(x: u32) -> u64
+    ensures { λ r. ⌜ r ≡ x ⌝ }
+{
+    x as u64
+}
+
+// The bytes that an entry has in the values, by its type and length.
+fn held_by(kind: u8, len: usize) -> usize
+    ensures { λ r. ⌜ r ≡ held-by kind len ⌝ }
+{
+    match kind {
+        0..=6 => len,
+        _ => 0,
+    }
+}
+
+pub fn held_of(row: usize) -> usize
+    requires { ⌜ row < row-count ⌝ }
+    ensures { λ r. ⌜ r ≡ held (at-row row) ⌝ }
+{
+    held_by(table::field::kind_of(row), table::field::len_of(row))
+}
+
+// ---- judging
+
+// A number, as one of the row's.
+pub fn judge_row_number(row: usize, v: u64) -> Verdict
+    requires { ⌜ (row < row-count) × (at-row row .kind ≡ REAL → v < 4294967296) ⌝ }
+    ensures { λ r. ⌜ r ≡ number-verdict (at-row row) v ⌝ }
+{
+    limits::judge_number(
+        table::field::kind_of(row),
+        table::field::low_of(row),
+        table::field::high_of(row),
+        v,
+    )
+}
+
+// The row's bytes, wherever they lie: only those of a number are looked at.
+fn judge_part(row: usize, bytes: &[u8], at: usize) -> Verdict
+    requires { ⌜ (row < row-count) × (at-row row .kind ≤ REAL → at + at-row row .len ≤ length (now bytes)) ⌝ }
+    ensures { λ r. ⌜ r ≡ number-verdict (at-row row) (number (now (bytes .entry)) at (at-row row .len)) ⌝ }
+{
+    match table::field::kind_of(row) {
+        0..=5 => judge_row_number(row, wire::number_at(bytes, at, table::field::len_of(row))),
+        _ => Verdict::Within,
+    }
+}
+
+// A value of the row's length.
+pub fn judge(row: usize, value: &[u8]) -> Verdict
+    requires { ⌜ (row < row-count) × (length (now value) ≡ at-row row .len) ⌝ }
+    ensures { λ r. ⌜ r ≡ row-verdict (at-row row) (now (value .entry)) ⌝ }
+{
+    judge_part(row, value, 0)
+}
+
+// The entry that stands in the values.
+pub fn judge_at(values: &[u8], row: usize) -> Verdict
+    requires { ⌜ (length (now values) ≡ 1024) × (row < row-count) ⌝ }
+    ensures { λ r. ⌜ r ≡ row-verdict (at-row row) (entry-of (at-row row) (now (values .entry))) ⌝ }
+{
+    judge_part(row, values, table::field::place_of(row))
+}
+
+// ---- reading and storing
+
+// The row's bytes, with zeros behind them.
+pub fn read_entry(values: &[u8], row: usize) -> [u8; 64]
+    requires { ⌜ (length (now values) ≡ 1024) × (row < row-count) ⌝ }
+    ensures { λ r. ⌜ r ≡ copied (at-row row) (now (values .entry)) ⌝ }
+{
+    let mut bytes = [0u8; 64];
+    wire::copy_at(
+        &mut bytes,
+        0,
+        values,
+        table::field::place_of(row),
+        held_of(row),
+    );
+    bytes
+}
+
+pub fn store_entry(values: &mut [u8], row: usize, value: &[u8])
+    requires { ⌜ (length (now values) ≡ 1024) × (row < row-count) × (length (now value) ≡ held (at-row row)) ⌝ }
+    ensures { λ _. ⌜ now (values .exit) ≡ stored (at-row row) (now (values .entry)) (now (value .entry)) ⌝ }
+{
+    wire::copy_at(values, table::field::place_of(row), value, 0, value.len());
+}
+
+// ---- defaults
+
+pub fn put_default(values: &mut [u8], row: usize)
+    requires { ⌜ (length (now values) ≡ 1024) × (row < row-count) ⌝ }
+    ensures { λ _. ⌜ now (values .exit) ≡ defaulted (at-row row) (now (values .entry)) ⌝ }
+{
+    wire::put_number(
+        values,
+        table::field::place_of(row),
+        held_of(row),
+        table::field::def_of(row),
+    );
+}
+
+// The columns are lent, so that they are laid out once for all rows.
+fn put_all(values: &mut [u8], kinds: &[u8], lens: &[u8], places: &[u16], defs: &[u32])
+    requires { ⌜ length (now values) ≡ 1024 ⌝ }
+    requires { ⌜ (now kinds ≡ column (λ (r : Row). r .kind)) × (now lens ≡ column (λ (r : Row). r .len)) ⌝ }
+    requires { ⌜ (now places ≡ column (λ (r : Row). r .place)) × (now defs ≡ column (λ (r : Row). r .def)) ⌝ }
+    ensures { λ _. ⌜ now (values .exit) ≡ defaults rows (now (values .entry)) ⌝ }
+{
+    let mut row = 0;
+    while row < table::ROWS {
+        let len = held_by(kinds[row], wide8(lens[row]));
+        wire::put_number(values, wide16(places[row]), len, wide32(defs[row]));
+        row += 1;
+    }
+}
+
+// Every row's default, in table order.
+pub fn put_defaults(values: &mut [u8])
+    requires { ⌜ length (now values) ≡ 1024 ⌝ }
+    ensures { λ _. ⌜ now (values .exit) ≡ defaults rows (now (values .entry)) ⌝ }
+{
+    put_all(
+        values,
+        &table::columns::KIND,
+        &table::columns::LEN,
+        &table::columns::PLACE,
+        &table::columns::DEFAULT,
+    );
+}

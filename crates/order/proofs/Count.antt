@@ -1,0 +1,139 @@
+-- A read in parts ends after exactly the parts that its length asks for; a transfer that is dropped changes no value.
+use Prim.Native.Nat.{ℕ, suc, _+_, _*_, _≤_, _<_}
+use native.Mathlib.Omega.{arith}
+use mathlib.Core.Path.{_≡_, refl, sym, ap, ap₂, _∙_, subst}
+use mathlib.Core.Logic.{_≢_}
+use mathlib.Core.Bool.{Bool, true, false, cond, not, Bool·beq}
+use mathlib.Core.List.{List, [], _∷_, _++_}
+use mathlib.Core.Option.{Option, none, some}
+use lib.Dec.{T, ltb, leb, leb→le, nleb→lt}
+use lib.ListN.{length, take}
+use lib.Seq.{take-add, take-all}
+use Rattle.order.specs.Talk.{Request, openRead, nextPart, expedited, openWrite, sendPart, giveUp, unknown, Answer, writeOpened, partTaken, wrongToggle, Read, value, denied, Sizes, sizes, closed, Outcome, stored, restarted, declined, Pending, idle, reading, writing}
+use Rattle.order.specs.Gauge.{Gauge, say, judged, allowed, writeWhole, after}
+use Rattle.order.specs.Serve.{Form, Wires, After, kept, wiped, left, Served, over, readOpening, givePart, conclude, takePart, writeOpening, serve, Board, Event, message, sample, leave, step, trace}
+use Rattle.order.specs.Observe.{gain, if-yes, onward, pick, follow}
+use Rattle.order.specs.Promise.{endsWrite, choose, Spares, Right, count, Calm, Ends}
+use Rattle.order.proofs.Serial.{by-cond, own-line}
+
+beq-refl : (t : Bool) → Bool·beq t t ≡ true
+beq-refl true = refl
+beq-refl false = refl
+
+module _ (P : Gauge) where
+  -- ---- a message that does not end a write with yes leaves the store alone
+
+  still-conclude : (g : P .Store) (k : P .Key) (y : Answer (P .Key)) (r : Outcome (P .Store)) → if-yes y true false ≡ true
+      → if-yes ((conclude P g k y r) .answer) true false ≡ false → (conclude P g k y r) .store ≡ g
+  unfolding conclude
+  still-conclude g k y (stored g′) ey h = cc
+  still-conclude g k y (restarted g′) ey h = cc
+  still-conclude g k y (declined c) ey h = refl
+
+  two : {g : P .Store} (d : Bool) (s s′ : Served P) → s .store ≡ g → s′ .store ≡ g → (cond d s s′) .store ≡ g
+  two true s s′ p q = p
+  two false s s′ p q = q
+
+  still-read-opening : (form : Form) (g : P .Store) (k : P .Key) (r : Read) → (readOpening P form g k r) .store ≡ g
+  unfolding readOpening
+  still-read-opening form g k (value bytes) = two (form .closes (length bytes)) _ _ refl refl
+  still-read-opening form g k (denied c) = refl
+
+  still-write-opening : (g : P .Store) (k : P .Key) (bytes : List ℕ) (z : Sizes) → (writeOpening P g k bytes z) .store ≡ g
+  unfolding writeOpening
+  still-write-opening g k bytes (sizes low high) = two (ltb high (length bytes)) _ _ refl refl
+  still-write-opening g k bytes (closed c) = refl
+
+  still-part : (g : P .Store) (k : P .Key) (low high : ℕ) (all : List ℕ) (t t′ u : Bool) (bytes : List ℕ) (last d : Bool)
+      → endsWrite (sendPart u bytes last) ((cond d (takePart P g k low high all t last (partTaken t′)) (over P g (wrongToggle k))) .answer) ≡ false
+      → (cond d (takePart P g k low high all t last (partTaken t′)) (over P g (wrongToggle k))) .store ≡ g
+  unfolding takePart if-yes endsWrite
+  still-part g k low high all t t′ u bytes true true h = still-conclude g k (partTaken t′) (judged P g k low high all) refl h
+  still-part g k low high all t t′ u bytes false true h = two (ltb high (length all)) _ _ refl refl
+  still-part g k low high all t t′ u bytes last false h = refl
+
+  -- THEOREM: dropped, refused or under way, nothing changes
+  pub untouched : (form : Form) (g : P .Store) (x : Pending (P .Key)) (a : Request (P .Key))
+      → endsWrite a ((serve P form g x a) .answer) ≡ false → (serve P form g x a) .store ≡ g
+  unfolding serve if-yes Rattle.order.specs.Gauge.narrow endsWrite
+  untouched form g x (openRead k) h = still-read-opening form g k (P .readWhole g k)
+  untouched form g idle (nextPart u) h = refl
+  untouched form g (reading k bytes p t) (nextPart u) h =
+      two (Bool·beq t u) (givePart P form g k bytes p t) (over P g (wrongToggle k)) (two (leb (length bytes) (p + form .size)) _ _ refl refl) refl
+  untouched form g (writing k low high sent t) (nextPart u) h = refl
+  untouched form g x (expedited k s bytes) h = still-conclude g k (writeOpened k) (writeWhole P g k s bytes) refl h
+  untouched form g x (openWrite k n bytes) h = still-write-opening g k bytes (allowed P k (say n))
+  untouched form g idle (sendPart u bytes last) h = refl
+  untouched form g (reading k held p t) (sendPart u bytes last) h = refl
+  untouched form g (writing k low high sent t) (sendPart u bytes last) h = still-part g k low high (sent ++ bytes) (not t) t u bytes last (Bool·beq t u) h
+  untouched form g x giveUp h = refl
+  untouched form g x unknown h = refl
+
+  -- ---- the count of parts
+
+  module _ (W : Wires (Pending (P .Key)) idle) (F : W .Line → Form) (l : W .Line) (k : P .Key) (bytes : List ℕ) where
+    spared : (ls : W .Lines) (m : W .Line) (a : After (P .Key)) → l ≢ m → Spares a → W .at (leave P W F ls m a) l ≡ W .at ls l
+    spared ls m (kept x) d c = W .at-other ls m l x d
+    spared ls m wiped d c = absurd c
+
+    -- THEOREM
+    pub ends : (es : List (Event P W F)) (b : Board P W F) (p : ℕ) (t : Bool) → W .at (b .lines) l ≡ reading k bytes p t → p < length bytes
+        → Right P W F l es t → Calm P W F b es → Ends P W F l bytes p b es
+    unfolding trace follow step serve
+    ends [] b p t x h r c = record { at-last = λ q. absurd (omega arith); not-before = λ q. refl }
+    ends (sample s ∷ es) b p t x h r c =
+        let i : Ends P W F l bytes p (record { store = P .sampled (b .store) s; lines = b .lines }) es = ends es (record { store = P .sampled (b .store) s; lines = b .lines }) p t x h r c in
+        record { at-last = i .at-last; not-before = i .not-before }
+    ends (message m a ∷ es) b p t x h r c =
+        let w : Goal (W .same l m) = go (W .same l m) r (λ p′ t′ x′ h′ r′. ends es b′ p′ t′ x′ h′ r′ (c .1)) in
+        record { at-last = w .0; not-before = w .1 }
+      where
+        s : Served P
+        s = serve P (F m) (b .store) (W .at (b .lines) m) a
+
+        b′ : Board P W F
+        b′ = record { store = s .store; lines = leave P W F (b .lines) m (s .after) }
+
+        f : List ℕ → Option (List ℕ)
+        f = follow P W F l (trace P W F b′ es)
+
+        n : ℕ
+        n = F l .size
+
+        Goal : Dec (l ≡ m) → Type 0
+        Goal d =
+            (length bytes ≤ p + pick P W F d (suc (count P W F l es)) (count P W F l es) * n → pick P W F d (onward (gain a (s .answer)) (take p bytes) f) (f (take p bytes)) ≡ some bytes)
+            × (p + pick P W F d (suc (count P W F l es)) (count P W F l es) * n < length bytes → pick P W F d (onward (gain a (s .answer)) (take p bytes) f) (f (take p bytes)) ≡ none)
+
+        Ih : Type 0
+        Ih = (p′ : ℕ) (t′ : Bool) → W .at (b′ .lines) l ≡ reading k bytes p′ t′ → p′ < length bytes → Right P W F l es t′ → Ends P W F l bytes p′ b′ es
+
+        s-is : l ≡ m → a ≡ nextPart t → s ≡ givePart P (F l) (b .store) k bytes p t
+        s-is e ea =
+            ap (λ (y : W .Line). serve P (F y) (b .store) (W .at (b .lines) y) a) (sym e) ∙ ap₂ (λ (y : Pending (P .Key)) (z : Request (P .Key)). serve P (F l) (b .store) y z) x ea
+            ∙ ap (λ (d : Bool). cond d (givePart P (F l) (b .store) k bytes p t) (over P (b .store) (wrongToggle k))) (beq-refl t)
+
+        tell-is : (u : Answer (P .Key)) → a ≡ nextPart t → s .answer ≡ u → onward (gain a (s .answer)) (take p bytes) f ≡ onward (gain (nextPart t) u) (take p bytes) f
+        tell-is u ea e = ap₂ (λ (y : Request (P .Key)) (z : Answer (P .Key)). onward (gain y z) (take p bytes) f) ea e
+
+        mine : (e : l ≡ m) → a ≡ nextPart t → Right P W F l es (not t) → Ih → Goal (yes e)
+        mine e ea r′ ih =
+            (by-cond P (λ z. s ≡ z → Goal (yes e)) (leb (length bytes) (p + n)) _ _
+            (λ ed es′.
+            let q : length bytes ≤ p + n = leb→le (length bytes) (p + n) (subst T (sym ed) tt) in (
+              (λ _. tell-is _ ea (ap (λ (y : Served P). y .answer) es′) ∙ ap some (sym (take-add p n bytes) ∙ take-all (p + n) bytes q)),
+              λ z. absurd (omega arith),
+            ))
+            (λ ed es′.
+            let q : p + n < length bytes = nleb→lt (length bytes) (p + n) (subst (λ (y : Bool). T (not y)) (sym ed) tt) in
+            let x′ : W .at (b′ .lines) l ≡ reading k bytes (p + n) (not t) = ap (W .at (b′ .lines)) e ∙ own-line P W F (b .lines) m (s .after) ∙ ap (λ (y : Served P). left (y .after)) es′ in
+            let i : Ends P W F l bytes (p + n) b′ es = ih (p + n) (not t) x′ q r′ in
+            let on : onward (gain a (s .answer)) (take p bytes) f ≡ f (take (p + n) bytes) = tell-is _ ea (ap (λ (y : Served P). y .answer) es′) ∙ ap f (sym (take-add p n bytes)) in
+            ((λ z. on ∙ i .at-last (omega arith)), λ z. on ∙ i .not-before (omega arith))))
+            (s-is e ea)
+
+        go : (d : Dec (l ≡ m)) → choose d ((a ≡ nextPart t) × Right P W F l es (not t)) (Right P W F l es t) → Ih → Goal d
+        go (yes e) r′ ih = mine e (r′ .0) (r′ .1) ih
+        go (no e) r′ ih =
+            let i : Ends P W F l bytes p b′ es = ih p t (spared (b .lines) m (s .after) e (c .0) ∙ x) h r′ in
+            (i .at-last, i .not-before)

@@ -1,0 +1,329 @@
+-- THE ORDER: any mix of messages and samples comes to what the plain gauge does, one whole operation after the other. By one induction
+-- over the events, from what lies ahead of a read (`Ahead`) and what the client remembers of a write (`Tracks`).
+use Prim.Native.Nat.{ℕ, _+_}
+use mathlib.Core.Path.{_≡_, refl, sym, ap, ap₂, _∙_, subst}
+use mathlib.Core.Logic.{_⊎_, inl, inr, _≢_}
+use mathlib.Core.Bool.{Bool, true, false, cond, not, Bool·beq}
+use mathlib.Core.List.{List, [], _∷_, _++_}
+use mathlib.Core.Option.{Option, none, some, Option·map}
+use lib.Dec.{T, ltb, leb, leb→le}
+use lib.ListN.{length, take}
+use lib.Seq.{take-add, take-all}
+use Rattle.order.specs.Talk.{Said, Request, openRead, nextPart, expedited, openWrite, sendPart, giveUp, unknown, Answer, writeOpened, partTaken, wrongToggle, Read, value, denied, Sizes, sizes, closed, Outcome, stored, restarted, declined, Pending, idle, reading, writing, gave, yes! }
+use Rattle.order.specs.Gauge.{Gauge, tooLong, counted, say, judged, judgedBy, allowed, writeWhole, Op, read, write, readResult, writeResult, written, result, after, results, endOf}
+use Rattle.order.specs.Serve.{Form, Wires, After, kept, wiped, left, Served, over, readOpening, givePart, readPart, conclude, takePart, writeOpening, writePart, serve, Board, Event, message, sample, leave, step, trace, run}
+use Rattle.order.specs.Observe.{Seen, nothing, sending, gain, ended, refusedBy, if-yes, noted, note, onward, Done, readDone, partDone, finished, placed, Seens, pick, remember, follow, observe, fresh}
+use Rattle.order.specs.Promise.{opsOf, gotOf, start, doneIn, Serial}
+
+-- ---- a read that goes on: what lies ahead of it, by what its line holds
+
+abbrev Ahead : {K : Type 0} → Pending K → (List ℕ → Option (List ℕ)) → Type 0
+Ahead idle f = (acc : List ℕ) → f acc ≡ none
+Ahead (reading k bytes p t) f = (f (take p bytes) ≡ none) ⊎ (f (take p bytes) ≡ some bytes)
+Ahead (writing k low high sent t) f = (acc : List ℕ) → f acc ≡ none
+
+dead : {K : Type 0} (x : Pending K) (f : List ℕ → Option (List ℕ)) → ((acc : List ℕ) → f acc ≡ none) → Ahead x f
+dead idle f h = h
+dead (reading k bytes p t) f h = inl (h (take p bytes))
+dead (writing k low high sent t) f h = h
+
+module _ (P : Gauge) where
+  -- a branch of the board: what is shown of both sides is shown of it
+  pub by-cond : (R : Served P → Type 0) (d : Bool) (s s′ : Served P) → (d ≡ true → R s) → (d ≡ false → R s′) → R (cond d s s′)
+  by-cond R true s s′ h h′ = h refl
+  by-cond R false s s′ h h′ = h′ refl
+
+  abbrev Onward : Pending (P .Key) → Bool → (List ℕ → Option (List ℕ)) → Served P → Type 0
+  Onward x u f s = Ahead (left (s .after)) f → Ahead x (λ acc. onward (gain (nextPart u) (s .answer)) acc f)
+
+  own-next : (form : Form) (g : P .Store) (x : Pending (P .Key)) (u : Bool) (f : List ℕ → Option (List ℕ)) → Onward x u f (readPart P form g x u)
+  unfolding onward gain readPart
+  own-next form g idle u f = λ q acc. refl
+  own-next form g (reading k bytes p t) u f =
+      by-cond (Onward (reading k bytes p t) u f) (Bool·beq t u) _ _
+      (λ _. by-cond (Onward (reading k bytes p t) u f) (leb (length bytes) (p + form .size)) _ _
+      (λ e q. inr (ap some (sym (take-add p (form .size) bytes) ∙ take-all (p + form .size) bytes (leb→le (length bytes) (p + form .size) (subst T (sym e) tt)))))
+      (λ e q. rw (← (take-add p (form .size) bytes)) q))
+      (λ _ q. inl refl)
+  own-next form g (writing k low high sent t) u f = λ q acc. refl
+
+  own-ahead : (form : Form) (g : P .Store) (x : Pending (P .Key)) (a : Request (P .Key)) (f : List ℕ → Option (List ℕ))
+      → Ahead (left ((serve P form g x a) .after)) f → Ahead x (λ acc. onward (gain a ((serve P form g x a) .answer)) acc f)
+  unfolding serve onward gain
+  own-ahead form g x (openRead k) f q = dead x (λ acc. none) (λ acc. refl)
+  own-ahead form g x (nextPart u) f q = own-next form g x u f q
+  own-ahead form g x (expedited k s bytes) f q = dead x (λ acc. none) (λ acc. refl)
+  own-ahead form g x (openWrite k n bytes) f q = dead x (λ acc. none) (λ acc. refl)
+  own-ahead form g x (sendPart u bytes last) f q = dead x (λ acc. none) (λ acc. refl)
+  own-ahead form g x giveUp f q = dead x (λ acc. none) (λ acc. refl)
+  own-ahead form g x unknown f q = dead x (λ acc. none) (λ acc. refl)
+
+  -- ---- a write that goes on: what the client has sent is what the board has of it
+
+  abbrev Tracks : Pending (P .Key) → Seen (P .Key) → Type 0
+  Tracks idle o = Unit {0}
+  Tracks (reading k bytes p t) o = Unit {0}
+  Tracks (writing k low high sent t) o = (n : Option ℕ) × (o ≡ sending k n sent) × (allowed P k (say n) ≡ sizes low high)
+
+  -- what the plain gauge does at a place
+  abbrev Next : P .Store → Option (Done P) → P .Store → Type 0
+  Next g none g′ = g ≡ g′
+  Next g (some d) g′ = (result P g (d .0) ≡ d .1) × (after P g (d .0) ≡ g′)
+
+  -- what is known after a message: the place, and what is left
+  abbrev Fine : P .Store → Seen (P .Key) → Option (Done P) → Served P → Type 0
+  Fine g o d s = Next g d (s .store) × Tracks (left (s .after)) o
+
+  counted-say : (n : Option ℕ) (high : ℕ) (bytes : List ℕ) → counted (say n) high bytes ≡ bytes
+  unfolding counted
+  counted-say none high bytes = refl
+  counted-say (some n) high bytes = refl
+
+  -- what the reads ahead of an opening bring
+  looked : (g : P .Store) (k : P .Key) (bytes : List ℕ) → P .readWhole g k ≡ value bytes
+      → (v : Option (List ℕ)) → (v ≡ none) ⊎ (v ≡ some bytes) → Next g (Option·map (λ w. (read k, gave w)) v) g
+  unfolding result after
+  looked g k bytes e none h = refl
+  looked g k bytes e (some w) (inl h) = (cc, refl)
+  looked g k bytes e (some w) (inr h) = (cc, refl)
+
+  fine-read-opening : (form : Form) (g : P .Store) (k : P .Key) (f : List ℕ → Option (List ℕ)) (r : Read) → P .readWhole g k ≡ r
+      → Ahead (left ((readOpening P form g k r) .after)) f → Fine g nothing (readDone P k ((readOpening P form g k r) .answer) f) (readOpening P form g k r)
+  unfolding result after readDone readOpening
+  fine-read-opening form g k f (denied c) e = λ q. ((ap (readResult P) e, refl), tt)
+  fine-read-opening form g k f (value bytes) e =
+      by-cond (λ s. Ahead (left (s .after)) f → Fine g nothing (readDone P k (s .answer) f) s) (form .closes (length bytes)) _ _
+      (λ d q. ((ap (readResult P) e ∙ ap gave (sym (take-all (form .carried (length bytes)) bytes (form .closes-all (length bytes) (subst T (sym d) tt)))), refl), tt))
+      (λ d q. (looked g k bytes e (f (take (form .carried (length bytes)) bytes)) q, tt))
+
+  -- an answer that says yes to a message of a write
+  record IsYes (y : Answer (P .Key)) : Type 0 where
+    ends : ended y ≡ some yes!
+    goes : refusedBy y ≡ none
+    seen : (a b : Seen (P .Key)) → if-yes y a b ≡ a
+
+  yes-opened : (k : P .Key) → IsYes (writeOpened k)
+  unfolding ended refusedBy if-yes
+  yes-opened k = record { ends = refl; goes = refl; seen = λ a b. refl }
+
+  yes-taken : (t : Bool) → IsYes (partTaken t)
+  unfolding ended refusedBy if-yes
+  yes-taken t = record { ends = refl; goes = refl; seen = λ a b. refl }
+
+  -- a write ends here: r is what the plain gauge makes of it
+  fine-conclude : (g : P .Store) (k : P .Key) (s : Said) (bytes : List ℕ) (y : Answer (P .Key)) → IsYes y
+      → (r : Outcome (P .Store)) → writeWhole P g k s bytes ≡ r
+      → (o : Seen (P .Key)) → Fine g o (Option·map (λ v. (write k s bytes, v)) (ended ((conclude P g k y r) .answer))) (conclude P g k y r)
+  unfolding result after ended conclude
+  fine-conclude g k s bytes y ey (stored g′) e o = rw (ey .ends) ((ap (writeResult P) e, ap (written P g) e), tt)
+  fine-conclude g k s bytes y ey (restarted g′) e o = rw (ey .ends) ((ap (writeResult P) e, ap (written P g) e), tt)
+  fine-conclude g k s bytes y ey (declined c) e o = ((ap (writeResult P) e, ap (written P g) e), tt)
+
+  -- a message of a write in parts, `all` being what was sent so far
+  module _ (g : P .Store) (k : P .Key) (n : Option ℕ) (low high : ℕ) (known : allowed P k (say n) ≡ sizes low high) (all : List ℕ) (y : Answer (P .Key)) (ey : IsYes y) where
+    whole : writeWhole P g k (say n) all ≡ judged P g k low high all
+    unfolding writeWhole
+    whole = ap (judgedBy P g k (say n) all) known ∙ ap (judged P g k low high) (counted-say n high all)
+
+    overrun : ltb high (length all) ≡ true → writeWhole P g k (say n) all ≡ declined tooLong
+    unfolding judged
+    overrun e = whole ∙ rw e
+
+    fine-more : (t : Bool)
+        → Fine g (if-yes ((takePart P g k low high all t false y) .answer) (sending k n all) nothing)
+        (Option·map (λ v. (write k (say n) all, v)) (refusedBy ((takePart P g k low high all t false y) .answer))) (takePart P g k low high all t false y)
+    unfolding result after refusedBy takePart
+    fine-more t =
+        by-cond (λ s. Fine g (if-yes (s .answer) (sending k n all) nothing) (Option·map (λ v. (write k (say n) all, v)) (refusedBy (s .answer))) s) (ltb high (length all)) _ _
+        (λ e. ((ap (writeResult P) (overrun e), ap (written P g) (overrun e)), tt))
+        (λ e. rw (ey .goes) (refl, (n, ey .seen (sending k n all) nothing, known)))
+
+    fine-last : (o : Seen (P .Key)) (t : Bool) → Fine g o (Option·map (λ v. (write k (say n) all, v)) (ended ((takePart P g k low high all t true y) .answer))) (takePart P g k low high all t true y)
+    unfolding takePart conclude
+    fine-last o t = fine-conclude g k (say n) all y ey (judged P g k low high all) whole o
+
+  fine-write-opening : (g : P .Store) (k : P .Key) (n : Option ℕ) (bytes : List ℕ) (z : Sizes) → allowed P k (say n) ≡ z
+      → Fine g (if-yes ((writeOpening P g k bytes z) .answer) (sending k n bytes) nothing)
+      (Option·map (λ v. (write k (say n) bytes, v)) (refusedBy ((writeOpening P g k bytes z) .answer))) (writeOpening P g k bytes z)
+  unfolding result after writeWhole writeOpening takePart refusedBy
+  fine-write-opening g k n bytes (sizes low high) e = fine-more g k n low high e bytes (writeOpened k) (yes-opened k) false
+  fine-write-opening g k n bytes (closed c) e =
+      let w : writeWhole P g k (say n) bytes ≡ declined c = ap (judgedBy P g k (say n) bytes) e in
+      ((ap (writeResult P) w, ap (written P g) w), tt)
+
+  fine-part : (g : P .Store) (x : Pending (P .Key)) (o : Seen (P .Key)) (u : Bool) (bytes : List ℕ) (last : Bool) → Tracks x o
+      → Fine g (if-yes ((writePart P g x u bytes last) .answer) (noted o bytes last) nothing) (partDone P o bytes last ((writePart P g x u bytes last) .answer)) (writePart P g x u bytes last)
+  unfolding partDone writePart noted
+  fine-part g idle nothing u bytes last h = (refl, tt)
+  fine-part g idle (sending k n sent) u bytes true h = (refl, tt)
+  fine-part g idle (sending k n sent) u bytes false h = (refl, tt)
+  fine-part g (reading k held p t) nothing u bytes last h = (refl, tt)
+  fine-part g (reading k held p t) (sending k′ n sent) u bytes true h = (refl, tt)
+  fine-part g (reading k held p t) (sending k′ n sent) u bytes false h = (refl, tt)
+  fine-part g (writing k low high sent t) o u bytes last h = rw (h .1) (by-cond (Parted (h .0) last) (Bool·beq t u) (takePart P g k low high (sent ++ bytes) (not t) last (partTaken t)) _ (λ _. go last) (λ _. no-part last))
+    where
+      Parted : Option ℕ → Bool → Served P → Type 0
+      Parted n l s = Fine g (if-yes (s .answer) (noted (sending k n sent) bytes l) nothing) (partDone P (sending k n sent) bytes l (s .answer)) s
+
+      go : (l : Bool) → Parted (h .0) l (takePart P g k low high (sent ++ bytes) (not t) l (partTaken t))
+      go true =
+          fine-last g k (h .0) low high (h .2) (sent ++ bytes) (partTaken t) (yes-taken t)
+          (if-yes ((takePart P g k low high (sent ++ bytes) (not t) true (partTaken t)) .answer) nothing nothing) (not t)
+      go false = fine-more g k (h .0) low high (h .2) (sent ++ bytes) (partTaken t) (yes-taken t) (not t)
+
+      no-part : (l : Bool) → Parted (h .0) l (over P g (wrongToggle k))
+      no-part true = (refl, tt)
+      no-part false = (refl, tt)
+
+  -- ONE MESSAGE: the place holds what the plain gauge gives there, and what the client remembers fits what is left
+  fine : (form : Form) (g : P .Store) (x : Pending (P .Key)) (o : Seen (P .Key)) (a : Request (P .Key)) (f : List ℕ → Option (List ℕ)) → Tracks x o
+      → Ahead (left ((serve P form g x a) .after)) f
+      → Fine g (note o a ((serve P form g x a) .answer)) (finished P o a ((serve P form g x a) .answer) f) (serve P form g x a)
+  unfolding serve note finished
+  fine form g x o (openRead k) f h q = fine-read-opening form g k f (P .readWhole g k) refl q
+  fine form g idle o (nextPart u) f h q = (refl, tt)
+  fine form g (reading k bytes p t) o (nextPart u) f h q =
+      by-cond (Fine g nothing none) (Bool·beq t u) (givePart P form g k bytes p t) _ (λ _. by-cond (Fine g nothing none) (leb (length bytes) (p + form .size)) _ _ (λ _. (refl, tt)) (λ _. (refl, tt)))
+      (λ _. (refl, tt))
+  fine form g (writing k low high sent t) o (nextPart u) f h q = (refl, tt)
+  fine form g x o (expedited k s bytes) f h q = fine-conclude g k s bytes (writeOpened k) (yes-opened k) (writeWhole P g k s bytes) refl nothing
+  fine form g x o (openWrite k n bytes) f h q = fine-write-opening g k n bytes (allowed P k (say n)) refl
+  fine form g x o (sendPart u bytes last) f h q = fine-part g x o u bytes last h
+  fine form g x o giveUp f h q = (refl, tt)
+  fine form g x o unknown f h q = (refl, tt)
+
+  -- ---- all lines
+
+  module _ (W : Wires (Pending (P .Key)) idle) (F : W .Line → Form) where
+    -- after a message on l: line l has what is left, another line what it had or nothing
+    pub own-line : (ls : W .Lines) (l : W .Line) (a : After (P .Key)) → W .at (leave P W F ls l a) l ≡ left a
+    own-line ls l (kept x) = W .at-same ls l x
+    own-line ls l wiped = W .at-clear l
+
+    pub other-line : (ls : W .Lines) (l m : W .Line) (a : After (P .Key)) → m ≢ l → (W .at (leave P W F ls l a) m ≡ W .at ls m) ⊎ (W .at (leave P W F ls l a) m ≡ idle)
+    other-line ls l m (kept x) d = inl (W .at-other ls l m x d)
+    other-line ls l m wiped d = inr (W .at-clear m)
+
+    -- WHAT LIES AHEAD OF A READ, whatever the other lines do: nothing, or just the bytes held
+    ahead : (es : List (Event P W F)) (b : Board P W F) (l : W .Line) → Ahead (W .at (b .lines) l) (follow P W F l (trace P W F b es))
+    unfolding trace follow step
+    ahead [] b l = dead (W .at (b .lines) l) (λ acc. none) (λ acc. refl)
+    ahead (sample s ∷ es) b l = ahead es (record { store = P .sampled (b .store) s; lines = b .lines }) l
+    ahead (message m a ∷ es) b l = go (W .same l m) (ahead es b′ l)
+      where
+        x : Pending (P .Key)
+        x = W .at (b .lines) l
+
+        s : Served P
+        s = serve P (F m) (b .store) (W .at (b .lines) m) a
+
+        b′ : Board P W F
+        b′ = record { store = s .store; lines = leave P W F (b .lines) m (s .after) }
+
+        f : List ℕ → Option (List ℕ)
+        f = follow P W F l (trace P W F b′ es)
+
+        other : (W .at (b′ .lines) l ≡ x) ⊎ (W .at (b′ .lines) l ≡ idle) → Ahead (W .at (b′ .lines) l) f → Ahead x f
+        other (inl e) q = subst (λ (y : Pending (P .Key)). Ahead y f) e q
+        other (inr e) q = dead x f (subst (λ (y : Pending (P .Key)). Ahead y f) e q)
+
+        mine : l ≡ m → Ahead (W .at (b′ .lines) l) f → Ahead x (λ acc. onward (gain a (s .answer)) acc f)
+        mine e q =
+            subst (λ (y : Pending (P .Key)). Ahead y (λ acc. onward (gain a (s .answer)) acc f)) (sym (ap (W .at (b .lines)) e))
+            (own-ahead (F m) (b .store) (W .at (b .lines) m) a f
+            (subst (λ (y : Pending (P .Key)). Ahead y f) (ap (W .at (b′ .lines)) e ∙ own-line (b .lines) m (s .after)) q))
+
+        go : (d : Dec (l ≡ m)) → Ahead (W .at (b′ .lines) l) f → Ahead x (λ acc. pick P W F d (onward (gain a (s .answer)) acc f) (f acc))
+        go (yes e) q = mine e q
+        go (no e) q = other (other-line (b .lines) m l (s .after) e) q
+
+    -- THE INVARIANT: on each line, what the client remembers of a write is what the board has of it
+    Inv : Board P W F → Seens P W F → Type 0
+    Inv b os = (l : W .Line) → Tracks (W .at (b .lines) l) (os l)
+
+    inv-message : (b : Board P W F) (os : Seens P W F) (l : W .Line) (g : P .Store) (a : After (P .Key)) (o : Seen (P .Key)) → Inv b os → Tracks (left a) o
+        → Inv (record { store = g; lines = leave P W F (b .lines) l a }) (remember P W F os l o)
+    unfolding Inv remember
+    inv-message b os l g a o h q m = go (W .same m l)
+      where
+        ls : W .Lines
+        ls = leave P W F (b .lines) l a
+
+        go : (d : Dec (m ≡ l)) → Tracks (W .at ls m) (pick P W F d o (os m))
+        go (yes e) = subst (λ (x : Pending (P .Key)). Tracks x o) (sym (ap (W .at ls) e ∙ own-line (b .lines) l a)) q
+        go (no e) = kept-or (other-line (b .lines) l m a e)
+          where
+            kept-or : (W .at ls m ≡ W .at (b .lines) m) ⊎ (W .at ls m ≡ idle) → Tracks (W .at ls m) (os m)
+            kept-or (inl c) = subst (λ (x : Pending (P .Key)). Tracks x (os m)) (sym c) (h m)
+            kept-or (inr c) = subst (λ (x : Pending (P .Key)). Tracks x (os m)) (sym c) tt
+
+    -- a list of finished operations agrees with the plain gauge from g to g′
+    Agrees : P .Store → List (Done P) → P .Store → Type 0
+    Agrees g [] g′ = g ≡ g′
+    Agrees g (d ∷ ds) g′ = (result P g (d .0) ≡ d .1) × Agrees (after P g (d .0)) ds g′
+
+    agrees-placed : (g g₁ g′ : P .Store) (d : Option (Done P)) (ds : List (Done P)) → Next g d g₁ → Agrees g₁ ds g′ → Agrees g (placed P d ds) g′
+    unfolding Agrees placed
+    agrees-placed g g₁ g′ none ds n q = subst (λ (x : P .Store). Agrees x ds g′) (sym n) q
+    agrees-placed g g₁ g′ (some d) ds n q = (n .0, subst (λ (x : P .Store). Agrees x ds g′) (sym (n .1)) q)
+
+    agrees : (es : List (Event P W F)) (b : Board P W F) (os : Seens P W F) → Inv b os
+        → Agrees (b .store) (observe P W F (trace P W F b es) os) ((run P W F b es) .store)
+    unfolding trace observe run step Agrees after result Inv
+    agrees [] b os h = refl
+    agrees (sample s ∷ es) b os h = (refl, agrees es (record { store = P .sampled (b .store) s; lines = b .lines }) os h)
+    agrees (message l a ∷ es) b os h =
+        agrees-placed (b .store) (s .store) ((run P W F b′ es) .store) (finished P (os l) a (s .answer) f) (observe P W F (trace P W F b′ es) os′)
+        (now .0) (agrees es b′ os′ (inv-message b os l (s .store) (s .after) (note (os l) a (s .answer)) h (now .1)))
+      where
+        s : Served P
+        s = serve P (F l) (b .store) (W .at (b .lines) l) a
+
+        b′ : Board P W F
+        b′ = record { store = s .store; lines = leave P W F (b .lines) l (s .after) }
+
+        os′ : Seens P W F
+        os′ = remember P W F os l (note (os l) a (s .answer))
+
+        f : List ℕ → Option (List ℕ)
+        f = follow P W F l (trace P W F b′ es)
+
+        now : Fine (b .store) (note (os l) a (s .answer)) (finished P (os l) a (s .answer) f) s
+        now =
+            fine (F l) (b .store) (W .at (b .lines) l) (os l) a f (h l)
+            (subst (λ (y : Pending (P .Key)). Ahead y f) (own-line (b .lines) l (s .after)) (ahead es b′ l))
+
+    -- ---- the promise
+
+    agrees-results : (ds : List (Done P)) (g g′ : P .Store) → Agrees g ds g′ → results P g (opsOf P ds) ≡ gotOf P ds
+    unfolding Agrees results
+    agrees-results [] g g′ h = refl
+    agrees-results (d ∷ ds) g g′ h = ap₂ _∷_ (h .0) (agrees-results ds (after P g (d .0)) g′ (h .1))
+
+    agrees-end : (ds : List (Done P)) (g g′ : P .Store) → Agrees g ds g′ → endOf P g (opsOf P ds) ≡ g′
+    unfolding Agrees endOf
+    agrees-end [] g g′ h = h
+    agrees-end (d ∷ ds) g g′ h = agrees-end ds (after P g (d .0)) g′ (h .1)
+
+    inv-start : (g : P .Store) → Inv (start P W F g) (fresh P W F)
+    unfolding Inv
+    inv-start g l = subst (λ (x : Pending (P .Key)). Tracks x nothing) (sym (W .at-clear l)) tt
+
+    -- THEOREM: for every list of events, from power-up
+    pub serial : (g : P .Store) (es : List (Event P W F)) → Serial P W F g es
+    serial g es =
+        let h : Agrees g (doneIn P W F g es) ((run P W F (start P W F g) es) .store) = agrees es (start P W F g) (fresh P W F) (inv-start g) in
+        record {
+          same-results = agrees-results (doneIn P W F g es) g ((run P W F (start P W F g) es) .store) h;
+          same-end = agrees-end (doneIn P W F g es) g ((run P W F (start P W F g) es) .store) h;
+        }
+
+    -- whatever every whole operation keeps, any mix of messages and samples keeps
+    kept-along : (I : P .Store → Type 0) → ((g : P .Store) (o : Op P) → I g → I (after P g o)) → (os : List (Op P)) (g : P .Store) → I g → I (endOf P g os)
+    unfolding endOf
+    kept-along I h [] g i = i
+    kept-along I h (o ∷ os) g i = kept-along I h os (after P g o) (h g o i)
+
+    pub keeps : (I : P .Store → Type 0) → ((g : P .Store) (o : Op P) → I g → I (after P g o))
+        → (g : P .Store) (es : List (Event P W F)) → I g → I ((run P W F (start P W F g) es) .store)
+    keeps I h g es i = subst I ((serial g es) .same-end) (kept-along I h (opsOf P (doneIn P W F g es)) g i)

@@ -1,0 +1,113 @@
+-- THE PLAIN GAUGE: it knows no messages, no parts and no lines. It is given whole reads, whole writes and samples, one after the other.
+use Prim.Native.Nat.{ℕ}
+use mathlib.Core.Bool.{cond}
+use mathlib.Core.List.{List, [], _∷_}
+use mathlib.Core.Option.{Option, none, some}
+use lib.Dec.{ltb}
+use lib.ListN.{length, take}
+use Rattle.order.specs.Talk.{Said, announced, unsaid, own, Read, value, denied, Sizes, sizes, closed, Outcome, stored, restarted, declined, Result, gave, yes!, code, taken}
+
+-- A gauge, entry by entry. `readWhole` judges index, subindex and access and gives the value. `rowOf` is what the table says of
+-- writing the entry; it has no store among its arguments. `commit` is given bytes of an allowed length: "lock; limits", then the write with its
+-- effects. `sampled` is the store after a sample
+pub record Gauge : Type 1 where
+  pub Store : Type 0
+  pub Key : Type 0
+  pub Sample : Type 0
+  pub readWhole : Store → Key → Read
+  pub rowOf : Key → Sizes
+  pub commit : Store → Key → List ℕ → Outcome Store
+  pub sampled : Store → Sample → Store
+
+-- "too long 06070012, too short 06070013"
+abbrev pub tooLong : ℕ
+tooLong = 0x06070012
+
+abbrev pub tooShort : ℕ
+tooShort = 0x06070013
+
+-- the length announced or meant, held against the table's smallest and largest: "announced .. length [is] judged at opening"
+unfoldable pub narrowed : ℕ → ℕ → Said → Sizes
+narrowed low high (announced n) = cond (ltb high n) (closed tooLong) (cond (ltb n low) (closed tooShort) (sizes n n))
+narrowed low high unsaid = sizes low high
+narrowed low high own = sizes high high
+
+unfoldable pub narrow : Sizes → Said → Sizes
+unfolding narrowed
+narrow (sizes low high) s = narrowed low high s
+narrow (closed c) s = closed c
+
+-- "else the entry's own length is meant": of the four bytes only so many count
+unfoldable pub counted : Said → ℕ → List ℕ → List ℕ
+counted (announced n) high bytes = bytes
+counted unsaid high bytes = bytes
+counted own high bytes = take high bytes
+
+-- the length that an opening in parts says: announced, or unknown
+abbrev pub say : Option ℕ → Said
+say none = unsaid
+say (some n) = announced n
+
+module _ (P : Gauge) where
+  -- "too long 06070012, too short 06070013; lock ..; limits .."
+  unfoldable pub judged : P .Store → P .Key → ℕ → ℕ → List ℕ → Outcome (P .Store)
+  judged g k low high bytes = cond (ltb high (length bytes)) (declined tooLong) (cond (ltb (length bytes) low) (declined tooShort) (P .commit g k bytes))
+
+  unfoldable pub judgedBy : P .Store → P .Key → Said → List ℕ → Sizes → Outcome (P .Store)
+  unfolding judged counted
+  judgedBy g k s bytes (sizes low high) = judged g k low high (counted s high bytes)
+  judgedBy g k s bytes (closed c) = declined c
+
+  -- all that is judged at opening
+  abbrev pub allowed : P .Key → Said → Sizes
+  allowed k s = narrow (P .rowOf k) s
+
+  -- A WHOLE WRITE, in document 01's order of checks: "the plain gauge is given the entry, the length announced or meant, if any,
+  -- and the bytes sent"
+  unfoldable pub writeWhole : P .Store → P .Key → Said → List ℕ → Outcome (P .Store)
+  unfolding judgedBy
+  writeWhole g k s bytes = judgedBy g k s bytes (allowed k s)
+
+  -- a whole operation
+  pub data Op : Type 0 where
+    read : P .Key → Op
+    write : P .Key → Said → List ℕ → Op
+    feed : P .Sample → Op
+
+  unfoldable pub readResult : Read → Result
+  readResult (value bytes) = gave bytes
+  readResult (denied c) = code c
+
+  unfoldable pub writeResult : Outcome (P .Store) → Result
+  writeResult (stored g) = yes!
+  writeResult (restarted g) = yes!
+  writeResult (declined c) = code c
+
+  -- "An abort answer .. leaves values and block as they were"
+  unfoldable pub written : P .Store → Outcome (P .Store) → P .Store
+  written g (stored g′) = g′
+  written g (restarted g′) = g′
+  written g (declined c) = g
+
+  -- what an operation gives back
+  unfoldable pub result : P .Store → Op → Result
+  unfolding readResult writeResult writeWhole
+  result g (read k) = readResult (P .readWhole g k)
+  result g (write k s bytes) = writeResult (writeWhole g k s bytes)
+  result g (feed s) = taken
+
+  -- the store that it leaves
+  unfoldable pub after : P .Store → Op → P .Store
+  unfolding written writeWhole
+  after g (read k) = g
+  after g (write k s bytes) = written g (writeWhole g k s bytes)
+  after g (feed s) = P .sampled g s
+
+  -- one whole operation after the other
+  unfoldable pub results : P .Store → List Op → List Result
+  results g [] = []
+  results g (o ∷ os) = result g o ∷ results (after g o) os
+
+  unfoldable pub endOf : P .Store → List Op → P .Store
+  endOf g [] = g
+  endOf g (o ∷ os) = endOf (after g o) os

@@ -1,0 +1,75 @@
+-- DEMAND 3, freed of bytes. `Serial` is what a reader has to believe, with the definitions that it names.
+use Prim.Native.Nat.{ℕ, suc, _+_, _*_, _≤_, _<_}
+use mathlib.Core.Path.{_≡_}
+use mathlib.Core.Bool.{Bool, true, false, cond, not}
+use mathlib.Core.List.{List, [], _∷_, map}
+use mathlib.Core.Option.{none, some}
+use lib.ListN.{length, take}
+use Rattle.order.specs.Talk.{Request, openRead, nextPart, expedited, openWrite, sendPart, giveUp, unknown, Answer, Pending, idle, Result}
+use Rattle.order.specs.Gauge.{Gauge, Op, results, endOf}
+use Rattle.order.specs.Serve.{Form, Wires, After, kept, wiped, serve, Board, Event, message, sample, step, trace, run}
+use Rattle.order.specs.Observe.{if-yes, Done, pick, follow, observe, fresh}
+
+-- the operations of a list of finished ones, and what the client got for them
+abbrev pub opsOf : (P : Gauge) → List (Done P) → List (Op P)
+opsOf P ds = map (λ (d : Done P). d .0) ds
+
+abbrev pub gotOf : (P : Gauge) → List (Done P) → List Result
+gotOf P ds = map (λ (d : Done P). d .1) ds
+
+-- does this message, so answered, end a write with yes?
+unfoldable pub endsWrite : {K : Type 0} → Request K → Answer K → Bool
+unfolding if-yes
+endsWrite (openRead k) t = false
+endsWrite (nextPart u) t = false
+endsWrite (expedited k s bytes) t = if-yes t true false
+endsWrite (openWrite k n bytes) t = false
+endsWrite (sendPart u bytes last) t = cond last (if-yes t true false) false
+endsWrite giveUp t = false
+endsWrite unknown t = false
+
+abbrev pub choose : {A : Type 0} → Dec A → Type 0 → Type 0 → Type 0
+choose (yes a) X Y = X
+choose (no n) X Y = Y
+
+-- not a device reset
+abbrev pub Spares : {K : Type 0} → After K → Type 0
+Spares (kept x) = Unit {0}
+Spares wiped = ⊥
+
+module _ (P : Gauge) (W : Wires (Pending (P .Key)) idle) (F : W .Line → Form) where
+  -- the board with a store and no transfer on any line, as power-up leaves it
+  abbrev pub start : P .Store → Board P W F
+  start g = record { store = g; lines = W .clear }
+
+  -- what the client makes of a run: the finished operations, each with what it got, in their order
+  abbrev pub doneIn : P .Store → List (Event P W F) → List (Done P)
+  doneIn g es = observe P W F (trace P W F (start g) es) (fresh P W F)
+
+  -- THE ORDER: the plain gauge, given these operations one at a time, gives the same results and ends with the same store
+  pub record Serial (g : P .Store) (es : List (Event P W F)) : Type 0 where
+    pub same-results : results P g (opsOf P (doneIn g es)) ≡ gotOf P (doneIn g es)
+    pub same-end : endOf P g (opsOf P (doneIn g es)) ≡ (run P W F (start g) es) .store
+
+  -- "With right toggles": the messages of line l ask for parts, with right toggles from t on; "the other line [is] free", and samples too
+  abbrev pub Right : W .Line → List (Event P W F) → Bool → Type 0
+  Right l [] t = Unit {0}
+  Right l (sample s ∷ es) t = Right l es t
+  Right l (message m a ∷ es) t = choose (W .same l m) ((a ≡ nextPart t) × Right l es (not t)) (Right l es t)
+
+  -- how many messages stand on line l
+  abbrev pub count : W .Line → List (Event P W F) → ℕ
+  count l [] = 0
+  count l (sample s ∷ es) = count l es
+  count l (message m a ∷ es) = pick P W F (W .same l m) (suc (count l es)) (count l es)
+
+  -- "anything but a device reset": none is done in this run
+  abbrev pub Calm : Board P W F → List (Event P W F) → Type 0
+  Calm b [] = Unit {0}
+  Calm b (sample s ∷ es) = Calm ((step P W F b (sample s)) .0) es
+  Calm b (message m a ∷ es) = Spares ((serve P (F m) (b .store) (W .at (b .lines) m) a) .after) × Calm ((step P W F b (message m a)) .0) es
+
+  -- THE COUNT: a read of which `place` bytes are got, on line l, ends with its bytes once its parts reach the end, and not before
+  pub record Ends (l : W .Line) (bytes : List ℕ) (place : ℕ) (b : Board P W F) (es : List (Event P W F)) : Type 0 where
+    pub at-last : length bytes ≤ place + count l es * F l .size → follow P W F l (trace P W F b es) (take place bytes) ≡ some bytes
+    pub not-before : place + count l es * F l .size < length bytes → follow P W F l (trace P W F b es) (take place bytes) ≡ none

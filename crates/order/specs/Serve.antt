@@ -1,0 +1,145 @@
+-- One line's serving, and the board: a store and what each line holds.
+use Prim.Native.Nat.{ℕ, _+_, _≤_}
+use mathlib.Core.Path.{_≡_}
+use mathlib.Core.Logic.{_≢_}
+use mathlib.Core.Bool.{Bool, true, false, cond, not, Bool·beq}
+use mathlib.Core.List.{List, [], _∷_, _++_}
+use lib.Dec.{T, ltb, leb}
+use lib.ListN.{length, take, drop}
+use Rattle.order.specs.Talk.{Request, openRead, nextPart, expedited, openWrite, sendPart, giveUp, unknown, Answer, opened, partGiven, writeOpened, partTaken, refused, wrongToggle, noTransfer, silent, Read, value, denied, Sizes, sizes, closed, Outcome, stored, restarted, declined, Pending, idle, reading, writing}
+use Rattle.order.specs.Gauge.{Gauge, tooLong, say, judged, allowed, writeWhole}
+
+-- how a line carries a value of some length: how many bytes the opening's answer carries, whether that closes the read, and the
+-- size of a part
+pub record Form : Type 0 where
+  pub carried : ℕ → ℕ
+  pub closes : ℕ → Bool
+  pub size : ℕ
+  pub closes-all : (n : ℕ) → T (closes n) → n ≤ carried n
+
+-- the lines, and what each of them holds; `clear`: none holds anything
+pub record Wires (X : Type 0) (x₀ : X) : Type 1 where
+  pub Line : Type 0
+  pub Lines : Type 0
+  pub same : (l m : Line) → Dec (l ≡ m)
+  pub at : Lines → Line → X
+  pub with : Lines → Line → X → Lines
+  pub clear : Lines
+  pub at-same : (ls : Lines) (l : Line) (x : X) → at (with ls l x) l ≡ x
+  pub at-other : (ls : Lines) (l m : Line) (x : X) → m ≢ l → at (with ls l x) m ≡ at ls m
+  pub at-clear : (l : Line) → at clear l ≡ x₀
+
+-- what a message leaves of the transfers: its own line's, or, after a device reset, none on any line
+pub data After (K : Type 0) : Type 0 where
+  kept : Pending K → After K
+  wiped : After K
+
+abbrev pub left : {K : Type 0} → After K → Pending K
+left (kept x) = x
+left wiped = idle
+
+module _ (P : Gauge) where
+  -- what one request comes to: the store, what is left of the transfers, the answer
+  pub record Served : Type 0 where
+    pub store : P .Store
+    pub after : After (P .Key)
+    pub answer : Answer (P .Key)
+
+  -- the line's transfer is ended or dropped: "Every abort drops it too"
+  abbrev pub over : P .Store → Answer (P .Key) → Served
+  over g t = record { store = g; after = kept idle; answer = t }
+
+  -- the line's transfer goes on
+  abbrev pub onwards : P .Store → Pending (P .Key) → Answer (P .Key) → Served
+  onwards g x t = record { store = g; after = kept x; answer = t }
+
+  -- "open a read .. Longer: 41 with the length in bytes 4-7, and the value is held as it is now"
+  unfoldable pub readOpening : Form → P .Store → P .Key → Read → Served
+  readOpening F g k (denied c) = over g (refused k c)
+  readOpening F g k (value bytes) =
+      cond (F .closes (length bytes))
+      (over g (opened k (length bytes) (take (F .carried (length bytes)) bytes) true))
+      (onwards g (reading k bytes (F .carried (length bytes)) false) (opened k (length bytes) (take (F .carried (length bytes)) bytes) false))
+
+  -- the part from `place` on: "bit 0 set on the last part"
+  unfoldable pub givePart : Form → P .Store → P .Key → List ℕ → ℕ → Bool → Served
+  givePart F g k bytes place t =
+      cond (leb (length bytes) (place + F .size))
+      (over g (partGiven t (take (F .size) (drop place bytes)) true))
+      (onwards g (reading k bytes (place + F .size) (not t)) (partGiven t (take (F .size) (drop place bytes)) false))
+
+  -- "next part of a read": "matching transfer 05040001; toggle 05030000"
+  unfoldable pub readPart : Form → P .Store → Pending (P .Key) → Bool → Served
+  unfolding givePart
+  readPart F g idle u = over g noTransfer
+  readPart F g (reading k bytes place t) u = cond (Bool·beq t u) (givePart F g k bytes place t) (over g (wrongToggle k))
+  readPart F g (writing k low high sent t) u = over g noTransfer
+
+  -- a write's last message is answered with yes or a code
+  unfoldable pub conclude : P .Store → P .Key → Answer (P .Key) → Outcome (P .Store) → Served
+  conclude g k answer (stored g′) = over g′ answer
+  conclude g k answer (restarted g′) = record { store = g′; after = wiped; answer = answer }
+  conclude g k answer (declined c) = over g (refused k c)
+
+  -- a message of a write, `all` being the bytes sent with it and before it, `last` whether it is the last one:
+  -- "parts that overrun give 06070012 at that message, a last part that ends short gives 06070013. Lock and limits are judged at the last message"
+  unfoldable pub takePart : P .Store → P .Key → ℕ → ℕ → List ℕ → Bool → Bool → Answer (P .Key) → Served
+  unfolding conclude judged
+  takePart g k low high all t true answer = conclude g k answer (judged P g k low high all)
+  takePart g k low high all t false answer = cond (ltb high (length all)) (over g (refused k tooLong)) (onwards g (writing k low high all t) answer)
+
+  -- "open a write": "Index to access and announced .. length are judged at opening"
+  unfoldable pub writeOpening : P .Store → P .Key → List ℕ → Sizes → Served
+  unfolding takePart
+  writeOpening g k bytes (closed c) = over g (refused k c)
+  writeOpening g k bytes (sizes low high) = takePart g k low high bytes false false (writeOpened k)
+
+  -- "next part of a write"
+  unfoldable pub writePart : P .Store → Pending (P .Key) → Bool → List ℕ → Bool → Served
+  unfolding takePart
+  writePart g idle u bytes last = over g noTransfer
+  writePart g (reading k held place t) u bytes last = over g noTransfer
+  writePart g (writing k low high sent t) u bytes last =
+      cond (Bool·beq t u) (takePart g k low high (sent ++ bytes) (not t) last (partTaken t)) (over g (wrongToggle k))
+
+  -- ONE REQUEST on a line that holds x. "Opening anew on a line drops that line's older transfer"; "4, the client gives up:
+  -- transfer dropped, no answer. 5 to 7: unknown"
+  unfoldable pub serve : Form → P .Store → Pending (P .Key) → Request (P .Key) → Served
+  unfolding readOpening readPart conclude writeOpening writePart writeWhole
+  serve F g x (openRead k) = readOpening F g k (P .readWhole g k)
+  serve F g x (nextPart u) = readPart F g x u
+  serve F g x (expedited k s bytes) = conclude g k (writeOpened k) (writeWhole P g k s bytes)
+  serve F g x (openWrite k n bytes) = writeOpening g k bytes (allowed P k (say n))
+  serve F g x (sendPart u bytes last) = writePart g x u bytes last
+  serve F g x giveUp = over g silent
+  serve F g x unknown = over g noTransfer
+
+  module _ (W : Wires (Pending (P .Key)) idle) (F : W .Line → Form) where
+    -- THE BOARD
+    pub record Board : Type 0 where
+      pub store : P .Store
+      pub lines : W .Lines
+
+    pub data Event : Type 0 where
+      message : W .Line → Request (P .Key) → Event
+      sample : P .Sample → Event
+
+    -- "Device reset answers, then does power-up and drops both lines' transfers"
+    abbrev pub leave : W .Lines → W .Line → After (P .Key) → W .Lines
+    leave ls l (kept x) = W .with ls l x
+    leave ls l wiped = W .clear
+
+    unfoldable pub step : Board → Event → Board × Answer (P .Key)
+    step b (message l a) =
+        let s : Served = serve (F l) (b .store) (W .at (b .lines) l) a in
+        (record { store = s .store; lines = leave (b .lines) l (s .after) }, s .answer)
+    step b (sample s) = (record { store = P .sampled (b .store) s; lines = b .lines }, silent)
+
+    -- each event with its answer
+    unfoldable pub trace : Board → List Event → List (Event × Answer (P .Key))
+    trace b [] = []
+    trace b (e ∷ es) = (e, (step b e) .1) ∷ trace ((step b e) .0) es
+
+    unfoldable pub run : Board → List Event → Board
+    run b [] = b
+    run b (e ∷ es) = run ((step b e) .0) es

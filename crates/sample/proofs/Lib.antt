@@ -1,0 +1,4 @@
+-- Laws that other crates cite.
+pub mod SampleLaws
+pub mod ImageLaws
+pub mod WholeSamples

@@ -1,0 +1,236 @@
+-- What stands where after a sample, one law for each fact. Assumes nothing.
+use mathlib.Core.Bool.{Bool, true, false, cond, not, _&&_}
+use mathlib.Core.Path.{_≡_, refl, sym, ap, ap₂, _∙_, subst}
+use mathlib.Core.List.{List, [], _∷_}
+use Prim.Native.Nat.{ℕ, _+_, _*_, _/_, _%_, _^_, _<_}
+use native.Mathlib.Omega.{arith}
+use lib.Bits.{bitAnd, bitOr, and-block, and-mask, or-lt}
+use lib.Dec.{T, eqb}
+use lib.ListN.{length}
+use lib.Ieee.{Float, binary32, ofBits, toBits, fits}
+use lib.Ieee.Bits.{ofBits-toBits, toBits-lt}
+use Rattle.wire.specs.Little.{little, fromLittle, number}
+use Rattle.wire.specs.Real.{real}
+use Rattle.wire.proofs.LittleLaws.{Bytes, from-little, number-lt}
+use Rattle.wire.proofs.Writes.{Write, write, written, within, tidy, shown, and-left, and-right, number-shown}
+use Rattle.trip.specs.declared.Trips.{Trips}
+use Rattle.trip.specs.Trip.{usable-pressure}
+use Rattle.table.specs.Places.{input-value, trip-input-1, trip-input-2, reading-valid, status-1, status-2, trip-outputs, settings-1, settings-2, sensor-error, active-word, latched-word, summary-byte, power-on-time}
+use Rattle.sample.specs.Faults.{kept, with-faults, summary, with-summary}
+use Rattle.sample.specs.Sample.{is-set, bit, settings, trips-after, with-reading, trip-word, with-trips, values-after}
+
+-- ---- the kept faults
+
+pub kept-is : (f : ℕ) → kept f ≡ f % 4 + f / 512 % 4 * 512
+unfolding kept
+kept-is f =
+    let e : f ≡ f / 512 * 512 + f % 512 = omega arith in
+    let m : f % 512 % 4 ≡ f % 4 = omega arith in
+    ap (λ (x : ℕ). bitAnd x 1539) e
+    ∙ and-block 9 (f / 512) 3 (f % 512) 3 (omega arith) (omega arith)
+    ∙ ap₂ (λ (x y : ℕ). x * 512 + y) (and-mask (f / 512) 2) (and-mask (f % 512) 2 ∙ m)
+    ∙ omega arith
+
+-- eleven bits, so a UINT holds them
+kept-lt : (f : ℕ) → kept f < 2 ^ 16
+kept-lt f = rw kept-is (omega arith)
+
+kept-word : (f : ℕ) → kept f < 2 ^ 32
+kept-word f = omega (arith, kept-lt f)
+
+-- ---- what fits
+
+four-fits : (b : Bool) → cond b 0 4 < 2 ^ (8 * 1)
+four-fits true = omega arith
+four-fits false = omega arith
+
+pub bit-lt : (b : Bool) → bit b < 2
+bit-lt true = omega arith
+bit-lt false = omega arith
+
+set-bit : (b : Bool) → not (eqb (bit b) 0) ≡ b
+set-bit true = refl
+set-bit false = refl
+
+word-lt : (t : Trips) → trip-word t < 2 ^ (8 * 4)
+unfolding trip-word
+word-lt t = omega (arith, bit-lt (t .one .high), bit-lt (t .one .low), bit-lt (t .two .high), bit-lt (t .two .low))
+
+-- ---- a sample as a list of writes
+
+-- the reading of a pattern, if it is usable, and what follows
+abbrev reading : Bool → ℕ → List Write → List Write
+reading true pattern ws =
+    write input-value 4 pattern ∷ write trip-input-1 4 pattern ∷ write trip-input-2 4 pattern ∷ write reading-valid 1 1 ∷ ws
+reading false pattern ws = write reading-valid 1 0 ∷ ws
+
+abbrev tripped : Trips → List Write → List Write
+tripped t ws =
+    write status-1 1 (bit (t .one .high)) ∷
+    write (status-1 + 1) 1 (bit (t .one .low)) ∷
+    write status-2 1 (bit (t .two .high)) ∷
+    write (status-2 + 1) 1 (bit (t .two .low)) ∷
+    write trip-outputs 4 (trip-word t) ∷
+    ws
+
+abbrev faulted : ℕ → ℕ → List Write → List Write
+faulted active latched ws = write sensor-error 2 active ∷ write active-word 4 active ∷ write latched-word 4 latched ∷ ws
+
+by-cases : {X : Type 0} (b : Bool) → (b ≡ true → X) → (b ≡ false → X) → X
+by-cases true y n = y refl
+by-cases false y n = n refl
+
+module _ (l : List ℕ) (was : Trips) (p : Float) (valid : ℕ) where
+  -- the writes of a sample whose pressure is usable or not, and some more
+  abbrev steps : Bool → List Write → List Write
+  steps u ws = reading u (toBits binary32 p) (tripped (trips-after l was p valid) ws)
+
+  -- the values are these writes, in each case
+  abbrev By : List ℕ → List Write → Type 0
+  By x ws = (u : Bool) → usable-pressure p valid ≡ u → x ≡ written l (steps u ws)
+
+  -- the tests that a number read afterwards asks for
+  abbrev fine : List Write → ℕ → ℕ → Bool
+  fine ws q m = (within 1024 (steps true ws) && tidy (steps true ws) q m) && (within 1024 (steps false ws) && tidy (steps false ws) q m)
+
+  module _ (h : length l ≡ 1024) (x : List ℕ) (ws : List Write) (by : By x ws) where
+    case : (u : Bool) → usable-pressure p valid ≡ u → (q m : ℕ) → within 1024 (steps u ws) && tidy (steps u ws) q m ≡ true → number x q m ≡ shown (steps u ws) q m (number l q m)
+    case u e q m k =
+        rw (by u e)
+        (number-shown (steps u ws) l 1024 q m h (and-left (within 1024 (steps u ws)) (tidy (steps u ws) q m) k) (and-right (within 1024 (steps u ws)) (tidy (steps u ws) q m) k))
+
+    -- a number that a reading does not write is the same in both cases
+    each : (q m v : ℕ) → fine ws q m ≡ true → shown (steps true ws) q m (number l q m) ≡ v → shown (steps false ws) q m (number l q m) ≡ v → number x q m ≡ v
+    each q m v k e f =
+        let a : Bool = within 1024 (steps true ws) && tidy (steps true ws) q m in
+        let b : Bool = within 1024 (steps false ws) && tidy (steps false ws) q m in
+        by-cases (usable-pressure p valid) (λ y. case true y q m (and-left a b k) ∙ e) (λ n. case false n q m (and-right a b k) ∙ f)
+
+module _ (l : List ℕ) (was : Trips) (p : Float) (valid faults seconds : ℕ) (h : length l ≡ 1024) where
+  -- the values after reading and trips, and those after the faults too
+  abbrev m : List ℕ
+  m = with-trips (trips-after l was p valid) (with-reading p valid l)
+
+  m-by : By l was p valid m []
+  unfolding with-trips with-reading
+  m-by true e = rw e
+  m-by false e = rw e
+
+  abbrev f-writes : List Write → List Write
+  f-writes = faulted (kept faults) (bitOr (kept faults) (number l latched-word 4))
+
+  latched-before : number m latched-word 4 ≡ number l latched-word 4
+  latched-before = each l was p valid h m [] m-by latched-word 4 _ refl refl refl
+
+  f-by : By l was p valid (with-faults faults m) (f-writes [])
+  unfolding with-faults
+  f-by true e = rw (latched-before, m-by true e)
+  f-by false e = rw (latched-before, m-by false e)
+
+  active-before : number (with-faults faults m) active-word 4 ≡ kept faults
+  active-before =
+      let e = from-little 4 (kept faults) (kept-word faults) in
+      each l was p valid h (with-faults faults m) (f-writes []) f-by active-word 4 (kept faults) refl e e
+
+  summary-before : summary (with-faults faults m) ≡ cond (eqb (kept faults) 0) 0 4
+  unfolding summary
+  summary-before = rw active-before
+
+  abbrev all-writes : List Write
+  all-writes = f-writes (write summary-byte 1 (cond (eqb (kept faults) 0) 0 4) ∷ write power-on-time 4 seconds ∷ [])
+
+  all-by : By l was p valid (values-after l was p valid faults seconds) all-writes
+  unfolding values-after with-summary
+  all-by true e = rw (summary-before, f-by true e)
+  all-by false e = rw (summary-before, f-by false e)
+
+  number-after : (q n v : ℕ) → fine l was p valid all-writes q n ≡ true → shown (steps l was p valid true all-writes) q n (number l q n) ≡ v → shown (steps l was p valid false all-writes) q n (number l q n) ≡ v → number (values-after l was p valid faults seconds) q n ≡ v
+  number-after = each l was p valid h (values-after l was p valid faults seconds) all-writes all-by
+
+  -- ---- faults, summary and time
+
+  pub error-shown : number (values-after l was p valid faults seconds) sensor-error 2 ≡ kept faults
+  error-shown = let e = from-little 2 (kept faults) (kept-lt faults) in number-after sensor-error 2 _ refl e e
+
+  pub active-shown : number (values-after l was p valid faults seconds) active-word 4 ≡ kept faults
+  active-shown = let e = from-little 4 (kept faults) (kept-word faults) in number-after active-word 4 _ refl e e
+
+  pub latched-shown : Bytes l → number (values-after l was p valid faults seconds) latched-word 4 ≡ bitOr (kept faults) (number l latched-word 4)
+  latched-shown bytes =
+      let e = from-little 4 (bitOr (kept faults) (number l latched-word 4)) (or-lt 32 (kept faults) (number l latched-word 4) (kept-word faults) (number-lt l latched-word 4 bytes)) in
+      number-after latched-word 4 _ refl e e
+
+  pub summary-shown : number (values-after l was p valid faults seconds) summary-byte 1 ≡ cond (eqb (kept faults) 0) 0 4
+  summary-shown = let e = from-little 1 (cond (eqb (kept faults) 0) 0 4) (four-fits (eqb (kept faults) 0)) in number-after summary-byte 1 _ refl e e
+
+  pub time-shown : seconds < 2 ^ 32 → number (values-after l was p valid faults seconds) power-on-time 4 ≡ seconds
+  time-shown k = let e = from-little 4 seconds k in number-after power-on-time 4 _ refl e e
+
+  -- ---- the reading
+
+  pub valid-shown : number (values-after l was p valid faults seconds) reading-valid 1 ≡ bit (usable-pressure p valid)
+  valid-shown =
+      by-cases (usable-pressure p valid)
+      (λ e. rw e (case l was p valid h _ all-writes all-by true e reading-valid 1 refl ∙ from-little 1 1 (omega arith)))
+      (λ e. rw e (case l was p valid h _ all-writes all-by false e reading-valid 1 refl ∙ from-little 1 0 (omega arith)))
+
+  -- a usable pressure stands at the three places of the input value
+  module _ (y : usable-pressure p valid ≡ true) (k : fits binary32 p ≡ true) where
+    real-after : (q : ℕ) → number (values-after l was p valid faults seconds) q 4 ≡ fromLittle (little 4 (toBits binary32 p)) → real (values-after l was p valid faults seconds) q ≡ p
+    unfolding real
+    real-after q e =
+        let t : T (fits binary32 p) = subst T (sym k) tt in
+        ap (ofBits binary32) (e ∙ from-little 4 (toBits binary32 p) (toBits-lt binary32 p t)) ∙ ofBits-toBits binary32 p t
+
+    pub input-shown : real (values-after l was p valid faults seconds) input-value ≡ p
+    input-shown = real-after input-value (case l was p valid h _ all-writes all-by true y input-value 4 refl)
+
+    pub input-1-shown : real (values-after l was p valid faults seconds) trip-input-1 ≡ p
+    input-1-shown = real-after trip-input-1 (case l was p valid h _ all-writes all-by true y trip-input-1 4 refl)
+
+    pub input-2-shown : real (values-after l was p valid faults seconds) trip-input-2 ≡ p
+    input-2-shown = real-after trip-input-2 (case l was p valid h _ all-writes all-by true y trip-input-2 4 refl)
+
+  -- a pressure that is not usable leaves them bit for bit
+  pub input-stays : usable-pressure p valid ≡ false → number (values-after l was p valid faults seconds) input-value 4 ≡ number l input-value 4
+  input-stays n = case l was p valid h _ all-writes all-by false n input-value 4 refl
+
+  pub input-1-stays : usable-pressure p valid ≡ false → number (values-after l was p valid faults seconds) trip-input-1 4 ≡ number l trip-input-1 4
+  input-1-stays n = case l was p valid h _ all-writes all-by false n trip-input-1 4 refl
+
+  pub input-2-stays : usable-pressure p valid ≡ false → number (values-after l was p valid faults seconds) trip-input-2 4 ≡ number l trip-input-2 4
+  input-2-stays n = case l was p valid h _ all-writes all-by false n trip-input-2 4 refl
+
+  -- ---- the trips
+
+  pub outputs-shown : number (values-after l was p valid faults seconds) trip-outputs 4 ≡ trip-word (trips-after l was p valid)
+  outputs-shown = let e = from-little 4 (trip-word (trips-after l was p valid)) (word-lt (trips-after l was p valid)) in number-after trip-outputs 4 _ refl e e
+
+  side-shown : (q : ℕ) (b : Bool) → number (values-after l was p valid faults seconds) q 1 ≡ fromLittle (little 1 (bit b)) → is-set (values-after l was p valid faults seconds) q ≡ b
+  unfolding is-set
+  side-shown q b e = rw (e, from-little 1 (bit b) (omega (arith, bit-lt b))) (set-bit b)
+
+  pub high-1-shown : is-set (values-after l was p valid faults seconds) status-1 ≡ trips-after l was p valid .one .high
+  high-1-shown = side-shown status-1 _ (number-after status-1 1 _ refl refl refl)
+
+  pub low-1-shown : is-set (values-after l was p valid faults seconds) (status-1 + 1) ≡ trips-after l was p valid .one .low
+  low-1-shown = side-shown (status-1 + 1) _ (number-after (status-1 + 1) 1 _ refl refl refl)
+
+  pub high-2-shown : is-set (values-after l was p valid faults seconds) status-2 ≡ trips-after l was p valid .two .high
+  high-2-shown = side-shown status-2 _ (number-after status-2 1 _ refl refl refl)
+
+  pub low-2-shown : is-set (values-after l was p valid faults seconds) (status-2 + 1) ≡ trips-after l was p valid .two .low
+  low-2-shown = side-shown (status-2 + 1) _ (number-after (status-2 + 1) 1 _ refl refl refl)
+
+  -- ---- the settings stay
+
+  stays : (q n : ℕ) → fine l was p valid all-writes q n ≡ true → shown (steps l was p valid true all-writes) q n (number l q n) ≡ number l q n → shown (steps l was p valid false all-writes) q n (number l q n) ≡ number l q n → number (values-after l was p valid faults seconds) q n ≡ number l q n
+  stays q n = number-after q n (number l q n)
+
+  pub settings-1-stay : settings (values-after l was p valid faults seconds) settings-1 ≡ settings l settings-1
+  unfolding settings real is-set
+  settings-1-stay = rw (stays 258 1 refl refl refl, stays 259 1 refl refl refl, stays 260 4 refl refl refl, stays 272 4 refl refl refl, stays 284 4 refl refl refl, stays 288 4 refl refl refl)
+
+  pub settings-2-stay : settings (values-after l was p valid faults seconds) settings-2 ≡ settings l settings-2
+  unfolding settings real is-set
+  settings-2-stay = rw (stays 296 1 refl refl refl, stays 297 1 refl refl refl, stays 298 4 refl refl refl, stays 310 4 refl refl refl, stays 322 4 refl refl refl, stays 326 4 refl refl refl)

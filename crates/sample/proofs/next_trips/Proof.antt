@@ -1,0 +1,26 @@
+-- `sample::next_trips`: point by point. Assumes nothing.
+use borrow.Author.Needs.{needs}
+use Rattle.sample.specs.Sample.{trips-after}
+use Rattle.sample.proofs.next_trips.Statement.{statement}
+use Rattle.sample.proofs.next_trips.Tie as tie
+
+settings-at-requires : tie.Need-settings-at-requires
+settings-at-requires c κs = search needs
+
+after-requires : tie.Need-after-requires
+after-requires c κs = search needs
+
+settings-at-requires-2 : tie.Need-settings-at-requires-2
+settings-at-requires-2 c κs = search needs
+
+after-requires-2 : tie.Need-after-requires-2
+after-requires-2 c κs = search needs
+
+returns : tie.Need-returns
+unfolding trips-after
+returns c = cc
+
+pub next-trips-spec : {M : Type 1} → statement M
+next-trips-spec =
+    tie.close
+    (tie.spec settings-at-requires after-requires settings-at-requires-2 after-requires-2 returns)

@@ -1,0 +1,4 @@
+-- What the contracts of `gauge` cite.
+pub mod Faults
+pub mod Sample
+pub mod Image

@@ -1,0 +1,185 @@
+-- DEMAND 3 for two lines of eight bytes, and the count of parts: every answer is one that eight bytes carry, so the order on bytes holds.
+use Prim.Native.Nat.{ℕ, _+_, _/_, _≤_, _<_}
+use native.Mathlib.Omega.{arith}
+use mathlib.Core.Path.{_≡_, refl, ap, _∙_}
+use mathlib.Core.Bool.{Bool, true, false, cond, not, Bool·beq, _&&_, and-false}
+use mathlib.Core.List.{List, [], _++_, map}
+use mathlib.Core.Option.{Option, none, some}
+use lib.Dec.{T, ltb, leb, leb→le}
+use lib.ListN.{length, take, drop, length-take}
+use lib.Seq.{take-length}
+use Rattle.order.specs.Talk.{Said, announced, unsaid, own, Request, openRead, nextPart, expedited, openWrite, sendPart, giveUp, unknown, Answer, opened, writeOpened, partTaken, wrongToggle, Read, value, denied, Sizes, sizes, closed, Outcome, stored, restarted, declined, Pending, idle, reading, writing}
+use Rattle.order.specs.Gauge.{Gauge, tooLong, tooShort, narrow, counted, say, judged, judgedBy, allowed, writeWhole, after}
+use Rattle.order.specs.Serve.{kept, left, Served, over, readOpening, givePart, conclude, takePart, writeOpening, serve, Event, message, step, trace}
+use Rattle.order.specs.Observe.{follow}
+use Rattle.order.specs.Promise.{Ends}
+use Rattle.order.specs.Bytes.{heard, meant, call, Clear}
+use Rattle.sdo.specs.Eight.{askOf, Code, Carried}
+use Rattle.sdo.specs.Lines.{Entries, gauge, Sound, short, eight, Line, atLine, twoLines, eightCodec, BoardCall, Demand3, TwoBoard, Parts, partsAsked, got}
+use Rattle.sdo.specs.declared.Key.{Key}
+use Rattle.sdo.proofs.RoundTrip.{round}
+use Rattle.order.proofs.OnBytes.{serial-bytes, decoded}
+use Rattle.order.proofs.Serial.{own-line}
+use Rattle.order.proofs.Count.{ends}
+
+long-code : Code tooLong
+long-code = record { fits = omega arith; not-transfer = refl; not-toggle = refl }
+
+short-code : Code tooShort
+short-code = record { fits = omega arith; not-transfer = refl; not-toggle = refl }
+
+module _ (E : Entries) (S : Sound E) where
+  abbrev P : Gauge
+  P = gauge E
+
+  -- the code of a refused write
+  Coded : Outcome (E .Store) → Type 0
+  Coded (stored g) = Unit {0}
+  Coded (restarted g) = Unit {0}
+  Coded (declined c) = Code c
+
+  CodedSizes : Sizes → Type 0
+  CodedSizes (sizes low high) = Unit {0}
+  CodedSizes (closed c) = Code c
+
+  commit-coded : (g : E .Store) (k : Key) (bytes : List ℕ) (r : Outcome (E .Store)) → E .commit g k bytes ≡ r → Coded r
+  unfolding Coded
+  commit-coded g k bytes (stored g′) e = tt
+  commit-coded g k bytes (restarted g′) e = tt
+  commit-coded g k bytes (declined c) e = S .commit-code g k bytes c e
+
+  judged-coded : (g : E .Store) (k : Key) (low high : ℕ) (bytes : List ℕ) → Coded (judged P g k low high bytes)
+  unfolding Coded judged
+  judged-coded g k low high bytes = go (ltb high (length bytes)) (ltb (length bytes) low)
+    where
+      go : (d e : Bool) → Coded (cond d (declined tooLong) (cond e (declined tooShort) (E .commit g k bytes)))
+      go true e = long-code
+      go false true = short-code
+      go false false = commit-coded g k bytes (E .commit g k bytes) refl
+
+  allowed-coded : (k : Key) (s : Said) (z : Sizes) → E .rowOf k ≡ z → CodedSizes (narrow z s)
+  unfolding CodedSizes narrow
+  allowed-coded k (announced n) (sizes low high) e = go (ltb high n) (ltb n low)
+    where
+      go : (d e : Bool) → CodedSizes (cond d (closed tooLong) (cond e (closed tooShort) (sizes n n)))
+      go true e′ = long-code
+      go false true = short-code
+      go false false = tt
+  allowed-coded k unsaid (sizes low high) e = tt
+  allowed-coded k own (sizes low high) e = tt
+  allowed-coded k s (closed c) e = S .row-code k c e
+
+  carries-conclude : (g : E .Store) (k : Key) (y : Answer Key) (r : Outcome (E .Store)) → Carried y → Coded r → Carried ((conclude P g k y r) .answer)
+  unfolding Coded conclude
+  carries-conclude g k y (stored g′) h c = h
+  carries-conclude g k y (restarted g′) h c = h
+  carries-conclude g k y (declined n) h c = c
+
+  write-coded : (g : E .Store) (k : Key) (s : Said) (bytes : List ℕ) (z : Sizes) → CodedSizes z → Coded (judgedBy P g k s bytes z)
+  unfolding Coded CodedSizes judgedBy judged
+  write-coded g k s bytes (sizes low high) c = judged-coded g k low high (counted s high bytes)
+  write-coded g k s bytes (closed n) c = c
+
+  carries-cond : (d : Bool) (s s′ : Served P) → (T d → Carried (s .answer)) → Carried (s′ .answer) → Carried ((cond d s s′) .answer)
+  carries-cond true s s′ h h′ = h tt
+  carries-cond false s s′ h h′ = h′
+
+  carries-part : (g : E .Store) (k : Key) (low high : ℕ) (all : List ℕ) (t last : Bool) (y : Answer Key) → Carried y → Carried ((takePart P g k low high all t last y) .answer)
+  unfolding takePart
+  carries-part g k low high all t true y h = carries-conclude g k y (judged P g k low high all) h (judged-coded g k low high all)
+  carries-part g k low high all t false y h = carries-cond (ltb high (length all)) _ _ (λ _. long-code) h
+
+  carries-write-opening : (g : E .Store) (k : Key) (bytes : List ℕ) (z : Sizes) → CodedSizes z → Carried ((writeOpening P g k bytes z) .answer)
+  unfolding CodedSizes writeOpening takePart
+  carries-write-opening g k bytes (sizes low high) c = carries-part g k low high bytes false false (writeOpened k) tt
+  carries-write-opening g k bytes (closed n) c = c
+
+  both-true : (a b : Bool) → T (a && b) → T a × T b
+  both-true true true t = (tt, tt)
+  both-true true false t = absurd t
+  both-true false b t = absurd t
+
+  carries-read-opening : (g : E .Store) (k : Key) (r : Read) → E .readWhole g k ≡ r → Carried ((readOpening P eight g k r) .answer)
+  unfolding eight readOpening
+  carries-read-opening g k (value bytes) e = go (short (length bytes)) (both-true (leb 1 (length bytes)) (leb (length bytes) 4))
+    where
+      n : ℕ
+      n = length bytes
+
+      go : (d : Bool) → (T d → T (leb 1 n) × T (leb n 4))
+          → Carried
+          ((cond d (over P g (opened k n (take (cond d n 0) bytes) true))
+          (record { store = g; after = kept (reading k bytes (cond d n 0) false); answer = opened k n (take (cond d n 0) bytes) false })) .answer)
+      go true h = rw take-length (refl, leb→le 1 n ((h tt) .0), leb→le n 4 ((h tt) .1))
+      go false h = (refl, S .value-fits g k bytes e)
+  carries-read-opening g k (denied c) e = S .read-code g k c e
+
+  at-most : (n : ℕ) (bytes : List ℕ) → length (take n bytes) ≤ n
+  at-most n bytes = rw length-take (omega arith)
+
+  carries : (g : E .Store) (x : Pending Key) (a : Request Key) → Carried ((serve P eight g x a) .answer)
+  unfolding serve writeWhole eight
+  carries g x (openRead k) = carries-read-opening g k (E .readWhole g k) refl
+  carries g idle (nextPart u) = tt
+  carries g (reading k bytes p t) (nextPart u) =
+      carries-cond (Bool·beq t u) (givePart P eight g k bytes p t) (over P g (wrongToggle k)) (λ _. carries-cond (leb (length bytes) (p + 7)) _ _ (λ _. at-most 7 (drop p bytes)) (at-most 7 (drop p bytes))) tt
+  carries g (writing k low high sent t) (nextPart u) = tt
+  carries g x (expedited k s bytes) = carries-conclude g k (writeOpened k) (writeWhole P g k s bytes) tt (write-coded g k s bytes (allowed P k s) (allowed-coded k s (E .rowOf k) refl))
+  carries g x (openWrite k n bytes) = carries-write-opening g k bytes (allowed P k (say n)) (allowed-coded k (say n) (E .rowOf k) refl)
+  carries g idle (sendPart u bytes last) = tt
+  carries g (reading k held p t) (sendPart u bytes last) = tt
+  carries g (writing k low high sent t) (sendPart u bytes last) =
+      carries-cond (Bool·beq t u) (takePart P g k low high (sent ++ bytes) (not t) last (partTaken t)) (over P g (wrongToggle k)) (λ _. carries-part g k low high (sent ++ bytes) (not t) last (partTaken t) tt) tt
+  carries g x giveUp = tt
+  carries g x unknown = tt
+
+  -- a client reads in every answer what the board meant
+  clear : Clear P (twoLines idle) (λ l. eight) (λ l. eightCodec)
+  clear l m h x a = round ((serve P eight h x a) .answer) (carries h x a)
+
+  -- THEOREM: demand 3, for every list of calls, from any store with no transfer under way
+  pub demand3 : (g : E .Store) (cs : List (BoardCall E)) → Demand3 E g cs
+  demand3 g cs = serial-bytes P (twoLines idle) (λ l. eight) (λ l. eightCodec) clear g cs
+
+  long-not-short : (n : ℕ) → 4 < n → short n ≡ false
+  long-not-short n h = go (leb n 4) (leb→le n 4)
+    where
+      go : (d : Bool) → (T d → n ≤ 4) → (leb 1 n && d) ≡ false
+      go true q = let z : n ≤ 4 = q tt in absurd (omega arith)
+      go false q = and-false (leb 1 n)
+
+  holds-read : (b : TwoBoard E) (l : Line) (k : Key) (bytes : List ℕ) → E .readWhole (b .store) k ≡ value bytes → 4 < length bytes
+      → atLine (((step P (twoLines idle) (λ l. eight) b (message l (openRead k))) .0) .lines) l ≡ reading k bytes 0 false
+  unfolding step serve eight
+  holds-read b l k bytes e h =
+      own-line P (twoLines idle) (λ l. eight) (b .lines) l ((readOpening P eight (b .store) k (E .readWhole (b .store) k)) .after)
+      ∙ ap (λ (r : Read). left ((readOpening P eight (b .store) k r) .after)) e
+      ∙ ap (λ (d : Bool). left ((cond d (over P (b .store) (opened k (length bytes) (take (cond d (length bytes) 0) bytes) true))
+      (record { store = b .store; after = kept (reading k bytes (cond d (length bytes) 0) false); answer = opened k (length bytes) (take (cond d (length bytes) 0) bytes) false })) .after))
+      (long-not-short (length bytes) h)
+
+  module _ (l : Line) (b : TwoBoard E) (m : List ℕ) (k : Key) (bytes : List ℕ) (opens : askOf m ≡ openRead k) (holds : E .readWhole (b .store) k ≡ value bytes) (long : 4 < length bytes)
+      (cs : List (BoardCall E)) (parts : Parts E l b m cs) where
+    ended7 : Ends P (twoLines idle) (λ l. eight) l bytes 0 ((call P (twoLines idle) (λ l. eight) (λ l. eightCodec) b (heard l m)) .0)
+        (map (meant P (twoLines idle) (λ l. eight) (λ l. eightCodec)) cs)
+    unfolding call
+    ended7 =
+        ends P (twoLines idle) (λ l. eight) l k bytes (map (meant P (twoLines idle) (λ l. eight) (λ l. eightCodec)) cs)
+        ((call P (twoLines idle) (λ l. eight) (λ l. eightCodec) b (heard l m)) .0) 0 false
+        (ap (λ (a : Request Key). atLine (((step P (twoLines idle) (λ l. eight) b (message l a)) .0) .lines) l) opens ∙ holds-read b l k bytes holds long)
+        (omega arith) (parts .right) (parts .calm)
+
+    as-got : (v : Option (List ℕ)) → follow P (twoLines idle) (λ l. eight) l (trace P (twoLines idle) (λ l. eight) ((call P (twoLines idle) (λ l. eight) (λ l. eightCodec) b (heard l m)) .0)
+        (map (meant P (twoLines idle) (λ l. eight) (λ l. eightCodec)) cs)) [] ≡ v → got E l b m cs ≡ v
+    as-got v e =
+        ap (λ (ps : List (Event P (twoLines idle) (λ l. eight) × Answer Key)). follow P (twoLines idle) (λ l. eight) l ps [])
+        (decoded P (twoLines idle) (λ l. eight) (λ l. eightCodec) clear cs ((call P (twoLines idle) (λ l. eight) (λ l. eightCodec) b (heard l m)) .0)) ∙ e
+
+    -- THEOREM: exactly L/7 parts, rounded up
+    pub finished-after : partsAsked E l cs ≡ (length bytes + 6) / 7 → got E l b m cs ≡ some bytes
+    unfolding eight
+    finished-after e = as-got (some bytes) (ended7 .at-last (omega (arith, e)))
+
+    pub not-finished-before : partsAsked E l cs < (length bytes + 6) / 7 → got E l b m cs ≡ none
+    unfolding eight
+    not-finished-before h = as-got none (ended7 .not-before (omega (arith, h)))

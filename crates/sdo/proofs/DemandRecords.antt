@@ -1,0 +1,284 @@
+-- DEMAND 3 of the board with its records by value: seen through its records it is the board of two lines, call by call.
+use Prim.Native.Nat.{ℕ, _+_, _/_, _≤_, _<_}
+use native.Mathlib.Omega.{arith}
+use mathlib.Core.Path.{_≡_, refl, sym, ap, ap₂, _∙_, subst}
+use mathlib.Core.Bool.{Bool, true, false, cond, not, Bool·beq}
+use mathlib.Core.List.{List, [], _∷_, _++_, map}
+use mathlib.Core.Option.{Option, none, some}
+use lib.Dec.{T, ltb, leb, nleb→lt, nltb→le}
+use lib.ListN.{length}
+use Rattle.order.specs.Talk.{Request, openRead, nextPart, expedited, openWrite, sendPart, giveUp, unknown, Answer, writeOpened, partTaken, wrongToggle, Read, value, denied, Sizes, sizes, closed, Outcome, stored, restarted, declined, Pending, idle, reading, writing}
+use Rattle.order.specs.Gauge.{Gauge, tooLong, tooShort, narrow, say, judged, allowed, writeWhole}
+use Rattle.order.specs.Serve.{After, kept, wiped, left, Served, over, readOpening, givePart, conclude, takePart, writeOpening, serve, leave, step}
+use Rattle.order.specs.Observe.{follow}
+use Rattle.order.specs.Promise.{Spares, start, Calm}
+use Rattle.order.specs.Bytes.{heard, fed, meant, call, talk, reads, afterAll}
+use Rattle.table.proofs.Table.{find-at}
+use Rattle.sdo.specs.declared.Key.{Key}
+use Rattle.sdo.specs.declared.Direction.{Direction}
+use Rattle.sdo.specs.declared.Direction.the-variants.{Reads, Writes}
+use Rattle.sdo.specs.declared.Transfer.{Transfer}
+use Rattle.sdo.specs.Eight.{askOf}
+use Rattle.sdo.specs.Lines.{Entries, gauge, Sound, short, eight, Line, tool, service, Both, atLine, setLine, both, twoLines, eightCodec, BoardCall, TwoBoard, Demand3, Parts, partsAsked, got}
+use Rattle.sdo.specs.Records.{allZero, numberOf, rowNumber, base, view, lay, is-wiped, speak, RecordBoard, recordCall, recordTalk, recordEnd, recordStart, RowOf, Rows, NoReset, RecordParts, recordGot, Demand3Records}
+use Rattle.sdo.proofs.RecordLaws.{Fits, Valid, view-zero, view-lay, Whole, valid-view, whole-lay, whole-base}
+use Rattle.sdo.proofs.Demand.{demand3, finished-after, not-finished-before}
+
+module _ (E : Entries) where
+  abbrev P : Gauge
+  P = gauge E
+
+  -- ---- what is left after a message is a transfer that the record can hold
+
+  -- the entry's row, as the table finds it, allows the transfer
+  pub row-fits : (d : Direction) (k : Key) (n place : ℕ) → RowOf E d k n → place ≤ n → Fits d (rowNumber k) k n place
+  unfolding numberOf
+  row-fits d k n place r h =
+      let at = find-at (k .index) (k .sub) (r .row) (r .found) in
+      rw (r .found)
+      (record {
+        there = at .there;
+        key-is = ap₂ (λ (i s : ℕ). record { index = i; sub = s }) (sym (at .index-is)) (sym (at .sub-is));
+        allowed = r .allowed;
+        length-is = r .length-is;
+        place-in = h;
+      })
+
+  module _ (R : Rows E) where
+    valid-cond : (row : ℕ) (d : Bool) (s s′ : Served P) → Valid row (left (s .after)) → (T (not d) → Valid row (left (s′ .after))) → Valid row (left ((cond d s s′) .after))
+    valid-cond row true s s′ h h′ = h
+    valid-cond row false s s′ h h′ = h′ tt
+
+    carried-in : (d : Bool) (n : ℕ) → cond d n 0 ≤ n
+    carried-in true n = omega arith
+    carried-in false n = omega arith
+
+    valid-read-opening : (g : E .Store) (k : Key) (r : Read) → E .readWhole g k ≡ r → Valid (rowNumber k) (left ((readOpening P eight g k r) .after))
+    unfolding eight readOpening
+    valid-read-opening g k (value bytes) e =
+        valid-cond (rowNumber k) (short (length bytes)) _ _ tt
+        (λ _. row-fits Reads k (length bytes) (cond (short (length bytes)) (length bytes) 0) (R .read-row g k bytes e) (carried-in (short (length bytes)) (length bytes)))
+    valid-read-opening g k (denied c) e = tt
+
+    valid-conclude : (row : ℕ) (g : E .Store) (k : Key) (y : Answer Key) (r : Outcome (E .Store)) → Valid row (left ((conclude P g k y r) .after))
+    unfolding conclude
+    valid-conclude row g k y (stored g′) = tt
+    valid-conclude row g k y (restarted g′) = tt
+    valid-conclude row g k y (declined c) = tt
+
+    valid-part : (row : ℕ) (g : E .Store) (k : Key) (low high n : ℕ) (all : List ℕ) (t last : Bool) (y : Answer Key) → low ≡ high → Fits Writes row k high n
+        → Valid row (left ((takePart P g k low high all t last y) .after))
+    unfolding takePart
+    valid-part row g k low high n all t true y e f = valid-conclude row g k y (judged P g k low high all)
+    valid-part row g k low high n all t false y e f =
+        valid-cond row (ltb high (length all)) _ _ tt
+        (λ h. (e, record { there = f .there; key-is = f .key-is; allowed = f .allowed; length-is = f .length-is; place-in = nltb→le high (length all) h }))
+
+    -- the sizes that an opening leaves: the row's length twice
+    SizedFor : Key → Sizes → Type 0
+    SizedFor k (sizes low high) = (low ≡ high) × RowOf E Writes k high
+    SizedFor k (closed c) = Unit {0}
+
+    sized : (k : Key) (n : Option ℕ) (z : Sizes) → E .rowOf k ≡ z → SizedFor k (narrow z (say n))
+    unfolding SizedFor narrow
+    sized k none (sizes low high) e = R .write-row k low high e
+    sized k (some n) (sizes low high) e = go (ltb high n) (ltb n low) (nltb→le high n) (nltb→le n low)
+      where
+        w : (low ≡ high) × RowOf E Writes k high
+        w = R .write-row k low high e
+
+        go : (d c : Bool) → (T (not d) → n ≤ high) → (T (not c) → low ≤ n) → SizedFor k (cond d (closed tooLong) (cond c (closed tooShort) (sizes n n)))
+        go true c p q = tt
+        go false true p q = tt
+        go false false p q =
+            let a : n ≤ high = p tt in
+            let b : low ≤ n = q tt in
+            let m : n ≡ high = omega (arith, w .0) in
+            (refl, rw m (w .1))
+    sized k none (closed c) e = tt
+    sized k (some n) (closed c) e = tt
+
+    valid-write-opening : (g : E .Store) (k : Key) (bytes : List ℕ) (z : Sizes) → SizedFor k z → Valid (rowNumber k) (left ((writeOpening P g k bytes z) .after))
+    unfolding SizedFor writeOpening
+    valid-write-opening g k bytes (sizes low high) h =
+        valid-part (rowNumber k) g k low high 0 bytes false false (writeOpened k) (h .0) (row-fits Writes k high 0 (h .1) (omega arith))
+    valid-write-opening g k bytes (closed c) h = tt
+
+    valid-serve : (g : E .Store) (t : Transfer) (x : Pending Key) (a : Request Key) → Valid (t .row) x → Valid ((base t a) .row) (left ((serve P eight g x a) .after))
+    unfolding serve eight base
+    valid-serve g t x (openRead k) v = valid-read-opening g k (E .readWhole g k) refl
+    valid-serve g t idle (nextPart u) v = tt
+    valid-serve g t (reading k bytes place u′) (nextPart u) v =
+        valid-cond (t .row) (Bool·beq u′ u) (givePart P eight g k bytes place u′) (over P g (wrongToggle k))
+        (valid-cond (t .row) (leb (length bytes) (place + 7)) _ _ tt
+        (λ h.
+        let q : place + 7 < length bytes = nleb→lt (length bytes) (place + 7) h in
+        record { there = v .there; key-is = v .key-is; allowed = v .allowed; length-is = v .length-is; place-in = omega arith }))
+        (λ _. tt)
+    valid-serve g t (writing k low high sent u′) (nextPart u) v = tt
+    valid-serve g t x (expedited k s bytes) v = valid-conclude 0 g k (writeOpened k) (writeWhole P g k s bytes)
+    valid-serve g t x (openWrite k n bytes) v = valid-write-opening g k bytes (allowed P k (say n)) (sized k n (E .rowOf k) refl)
+    valid-serve g t idle (sendPart u bytes last) v = tt
+    valid-serve g t (reading k held place u′) (sendPart u bytes last) v = tt
+    valid-serve g t (writing k low high sent u′) (sendPart u bytes last) v =
+        valid-cond (t .row) (Bool·beq u′ u) (takePart P g k low high (sent ++ bytes) (not u′) last (partTaken u′)) (over P g (wrongToggle k))
+        (valid-part (t .row) g k low high (length sent) (sent ++ bytes) (not u′) last (partTaken u′) (v .0) (v .1)) (λ _. tt)
+    valid-serve g t x giveUp v = tt
+    valid-serve g t x unknown v = tt
+
+    -- ---- the two boards, call by call
+
+    abbrev seenAs : RecordBoard E → TwoBoard E
+    seenAs b = record { store = b .store; lines = record { onTool = view (b .records .onTool); onService = view (b .records .onService) } }
+
+    -- the records' arrays are whole
+    pub record WholeBoard (b : RecordBoard E) : Type 0 where
+      pub at-each : (l : Line) → Whole (atLine (b .records) l)
+
+    at-seen : (b : RecordBoard E) (l : Line) → atLine ((seenAs b) .lines) l ≡ view (atLine (b .records) l)
+    at-seen b tool = refl
+    at-seen b service = refl
+
+    abbrev seenLines : Both Transfer → Both (Pending Key)
+    seenLines rs = record { onTool = view (rs .onTool); onService = view (rs .onService) }
+
+    -- the records after a message, seen as transfers
+    seen-set : (rs : Both Transfer) (l : Line) (t : Transfer) (x : Pending Key) → Valid (t .row) x → seenLines (setLine rs l (lay t x)) ≡ setLine (seenLines rs) l x
+    seen-set rs tool t x v = ap (λ (y : Pending Key). record { onTool = y; onService = view (rs .onService) }) (view-lay t x v)
+    seen-set rs service t x v = ap (λ (y : Pending Key). record { onTool = view (rs .onTool); onService = y }) (view-lay t x v)
+
+    seen-leave : (rs : Both Transfer) (l : Line) (t : Transfer) (a : After Key) → Valid (t .row) (left a)
+        → seenLines (cond (is-wiped a) (both allZero) (setLine rs l (lay t (left a)))) ≡ leave P (twoLines idle) (λ l. eight) (seenLines rs) l a
+    seen-leave rs l t wiped v = ap both view-zero
+    seen-leave rs l t (kept x) v = seen-set rs l t x v
+
+    whole-set : (rs : Both Transfer) (l m : Line) (t : Transfer) → Whole t → Whole (atLine rs m) → Whole (atLine (setLine rs l t) m)
+    whole-set rs tool tool t w h = w
+    whole-set rs tool service t w h = h
+    whole-set rs service tool t w h = h
+    whole-set rs service service t w h = w
+
+    whole-zero : (m : Line) → Whole (atLine (both allZero) m)
+    whole-zero tool = refl
+    whole-zero service = refl
+
+    whole-leave : (rs : Both Transfer) (l m : Line) (t : Transfer) (a : After Key) → Whole t → Valid (t .row) (left a) → Whole (atLine rs m)
+        → Whole (atLine (cond (is-wiped a) (both allZero) (setLine rs l (lay t (left a)))) m)
+    whole-leave rs l m t wiped w v h = whole-zero m
+    whole-leave rs l m t (kept x) w v h = whole-set rs l m (lay t x) (whole-lay t x w v) h
+
+    abbrev on : TwoBoard E → BoardCall E → TwoBoard E × List ℕ
+    on = call P (twoLines idle) (λ l. eight) (λ l. eightCodec)
+
+    -- one call: the same bytes, the same board as seen, and the records' arrays stay whole
+    pub record Follows (b : RecordBoard E) (c : BoardCall E) : Type 0 where
+      pub same-bytes : (recordCall E b c) .1 ≡ (on (seenAs b) c) .1
+      pub same-board : seenAs ((recordCall E b c) .0) ≡ (on (seenAs b) c) .0
+      pub whole : WholeBoard ((recordCall E b c) .0)
+
+    pub follows : (b : RecordBoard E) (c : BoardCall E) → WholeBoard b → Follows b c
+    unfolding recordCall call step speak
+    follows b (fed s) w = record { same-bytes = refl; same-board = refl; whole = record { at-each = w .at-each } }
+    follows b (heard l m) w =
+        record {
+          same-bytes = rw (at-seen b l);
+          same-board = rw (at-seen b l) (ap (λ (ls : Both (Pending Key)). record { store = s .store; lines = ls }) (seen-leave (b .records) l t′ (s .after) v));
+          whole = record { at-each = λ n. whole-leave (b .records) l n t′ (s .after) (whole-base t (askOf m) (w .at-each l)) v (w .at-each n) };
+        }
+      where
+        t : Transfer
+        t = atLine (b .records) l
+
+        t′ : Transfer
+        t′ = base t (askOf m)
+
+        s : Served P
+        s = serve P eight (b .store) (view t) (askOf m)
+
+        v : Valid (t′ .row) (left (s .after))
+        v = valid-serve (b .store) t (view t) (askOf m) (valid-view t (w .at-each l))
+
+    pub same-talk : (cs : List (BoardCall E)) (b : RecordBoard E) → WholeBoard b → recordTalk E b cs ≡ talk P (twoLines idle) (λ l. eight) (λ l. eightCodec) (seenAs b) cs
+    unfolding recordTalk talk
+    same-talk [] b w = refl
+    same-talk (c ∷ cs) b w =
+        let f : Follows b c = follows b c w in
+        ap₂ (λ (bytes : List ℕ) (r : List (BoardCall E × List ℕ)). (c, bytes) ∷ r) (f .same-bytes)
+        (same-talk cs ((recordCall E b c) .0) (f .whole) ∙ ap (λ (d : TwoBoard E). talk P (twoLines idle) (λ l. eight) (λ l. eightCodec) d cs) (f .same-board))
+
+    pub same-end : (cs : List (BoardCall E)) (b : RecordBoard E) → WholeBoard b
+        → seenAs (recordEnd E b cs) ≡ afterAll P (twoLines idle) (λ l. eight) (λ l. eightCodec) (seenAs b) cs
+    unfolding recordEnd afterAll
+    same-end [] b w = refl
+    same-end (c ∷ cs) b w =
+        let f : Follows b c = follows b c w in
+        same-end cs ((recordCall E b c) .0) (f .whole) ∙ ap (λ (d : TwoBoard E). afterAll P (twoLines idle) (λ l. eight) (λ l. eightCodec) d cs) (f .same-board)
+
+    seen-start : (g : E .Store) → seenAs (recordStart E g) ≡ start P (twoLines idle) (λ l. eight) g
+    seen-start g = ap (λ (x : Pending Key). record { store = g; lines = both x }) view-zero
+
+    whole-start : (g : E .Store) → WholeBoard (recordStart E g)
+    whole-start g = record { at-each = whole-zero }
+
+    -- THEOREM: demand 3, of the board with its records, for every list of calls from power-up
+    pub demand3-records : Sound E → (g : E .Store) (cs : List (BoardCall E)) → Demand3Records E g cs
+    demand3-records S g cs =
+        record {
+          same-results = rw talked (d .same-results);
+          same-end = rw talked (d .same-end ∙ sym (ap (λ (b : TwoBoard E). b .store) ended));
+        }
+      where
+        d : Demand3 E g cs
+        d = demand3 E S g cs
+
+        talked : recordTalk E (recordStart E g) cs ≡ talk P (twoLines idle) (λ l. eight) (λ l. eightCodec) (start P (twoLines idle) (λ l. eight) g) cs
+        talked = same-talk cs (recordStart E g) (whole-start g) ∙ ap (λ (b : TwoBoard E). talk P (twoLines idle) (λ l. eight) (λ l. eightCodec) b cs) (seen-start g)
+
+        ended : seenAs (recordEnd E (recordStart E g) cs) ≡ afterAll P (twoLines idle) (λ l. eight) (λ l. eightCodec) (start P (twoLines idle) (λ l. eight) g) cs
+        ended = same-end cs (recordStart E g) (whole-start g) ∙ ap (λ (b : TwoBoard E). afterAll P (twoLines idle) (λ l. eight) (λ l. eightCodec) b cs) (seen-start g)
+
+    -- ---- the count of parts
+
+    spares : (a : After Key) → is-wiped a ≡ false → Spares a
+    spares (kept x) e = tt
+    spares wiped e = let z : _≡_ {A = ℕ} 0 1 = cc in absurd (omega arith)
+
+    no-reset-calm : (cs : List (BoardCall E)) (b : RecordBoard E) → WholeBoard b → NoReset E b cs
+        → Calm P (twoLines idle) (λ l. eight) (seenAs b) (map (meant P (twoLines idle) (λ l. eight) (λ l. eightCodec)) cs)
+    unfolding call speak step
+    no-reset-calm [] b w n = tt
+    no-reset-calm (heard l m ∷ cs) b w n =
+        let f : Follows b (heard l m) = follows b (heard l m) w in (
+          subst (λ (x : Pending Key). Spares ((serve P eight (b .store) x (askOf m)) .after)) (sym (at-seen b l)) (spares ((serve P eight (b .store) (view (atLine (b .records) l)) (askOf m)) .after) (n .0)),
+          subst (λ (d : TwoBoard E). Calm P (twoLines idle) (λ l. eight) d (map (meant P (twoLines idle) (λ l. eight) (λ l. eightCodec)) cs)) (f .same-board)
+              (no-reset-calm cs ((recordCall E b (heard l m)) .0) (f .whole) (n .1)),
+        )
+    no-reset-calm (fed s ∷ cs) b w n =
+        let f : Follows b (fed s) = follows b (fed s) w in
+        subst (λ (d : TwoBoard E). Calm P (twoLines idle) (λ l. eight) d (map (meant P (twoLines idle) (λ l. eight) (λ l. eightCodec)) cs)) (f .same-board)
+        (no-reset-calm cs ((recordCall E b (fed s)) .0) (f .whole) n)
+
+    module _ (S : Sound E) (l : Line) (b : RecordBoard E) (w : WholeBoard b) (m : List ℕ) (k : Key) (bytes : List ℕ) (opens : askOf m ≡ openRead k)
+        (holds : E .readWhole (b .store) k ≡ value bytes) (long : 4 < length bytes) (cs : List (BoardCall E)) (parts : RecordParts E l b m cs) where
+      f : Follows b (heard l m)
+      f = follows b (heard l m) w
+
+      same-got : recordGot E l b m cs ≡ got E l (seenAs b) m cs
+      same-got =
+          ap (λ (ps : List (BoardCall E × List ℕ)). follow P (twoLines idle) (λ l. eight) l (map (reads P (twoLines idle) (λ l. eight) (λ l. eightCodec)) ps) [])
+          (same-talk cs ((recordCall E b (heard l m)) .0) (f .whole) ∙ ap (λ (d : TwoBoard E). talk P (twoLines idle) (λ l. eight) (λ l. eightCodec) d cs) (f .same-board))
+
+      seen-parts : Parts E l (seenAs b) m cs
+      seen-parts =
+          record {
+            right = parts .right;
+            calm = subst (λ (d : TwoBoard E). Calm P (twoLines idle) (λ l. eight) d (map (meant P (twoLines idle) (λ l. eight) (λ l. eightCodec)) cs)) (f .same-board)
+                (no-reset-calm cs ((recordCall E b (heard l m)) .0) (f .whole) (parts .calm));
+          }
+
+      -- THEOREM: a read of more than four bytes is finished after exactly L/7 parts, rounded up, whatever the records and the other line
+      pub record-finished : partsAsked E l cs ≡ (length bytes + 6) / 7 → recordGot E l b m cs ≡ some bytes
+      record-finished e = same-got ∙ finished-after E S l (seenAs b) m k bytes opens holds long cs seen-parts e
+
+      pub record-not-finished : partsAsked E l cs < (length bytes + 6) / 7 → recordGot E l b m cs ≡ none
+      record-not-finished e = same-got ∙ not-finished-before E S l (seenAs b) m k bytes opens holds long cs seen-parts e

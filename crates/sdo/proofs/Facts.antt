@@ -1,0 +1,96 @@
+-- Small facts about tests, bits and bytes that the functions' proofs cite.
+use Prim.Native.Nat.{ℕ, zero, suc, _+_, _-_, _*_, _/_, _%_, _≤_, _<_, min}
+use native.Mathlib.Omega.{arith}
+use native.Mathlib.Nat.{add-zero}
+use mathlib.Core.Path.{_≡_, refl, sym, ap, ap₂, _∙_}
+use mathlib.Core.Bool.{Bool, true, false, _&&_}
+use mathlib.Core.List.{List, [], _∷_, _++_}
+use lib.Dec.{leb}
+use lib.ListN.{length, take, drop, getD, replicate, length-take, length-drop}
+use lib.Seq.{getD-drop}
+use Rattle.wire.specs.Little.{little}
+use Rattle.order.specs.Talk.{opened, partGiven}
+use Rattle.sdo.specs.declared.Key.{Key}
+use Rattle.sdo.specs.Eight.{choice, one, answerOf}
+
+-- a test whose result is known settles the definition's test
+pub said : {r s b : Bool} → r ≡ s → r ≡ b → s ≡ b
+said p q = sym p ∙ q
+
+pub and-first : (a b : Bool) → a ≡ true → b ≡ (a && b)
+and-first true b e = refl
+and-first false b e = cc
+
+pub and-right : (a b : Bool) → (a && b) ≡ true → b ≡ true
+and-right true b e = e
+and-right false b e = cc
+
+pub above-four : {A : Type 0} (n : ℕ) (a₀ a₁ a₂ a₃ a₄ above : A) → 5 ≤ n → choice n a₀ a₁ a₂ a₃ a₄ above ≡ above
+unfolding choice
+above-four zero a₀ a₁ a₂ a₃ a₄ above h = absurd (omega arith)
+above-four (suc zero) a₀ a₁ a₂ a₃ a₄ above h = absurd (omega arith)
+above-four (suc (suc zero)) a₀ a₁ a₂ a₃ a₄ above h = absurd (omega arith)
+above-four (suc (suc (suc zero))) a₀ a₁ a₂ a₃ a₄ above h = absurd (omega arith)
+above-four (suc (suc (suc (suc zero)))) a₀ a₁ a₂ a₃ a₄ above h = absurd (omega arith)
+above-four (suc (suc (suc (suc (suc n))))) a₀ a₁ a₂ a₃ a₄ above h = refl
+
+-- the first four of a list, and the first seven, filled up with zeros, one by one
+pub pad4 : (l : List ℕ) → length l ≤ 4 → l ++ replicate (4 - length l) 0 ≡ getD l 0 0 ∷ getD l 1 0 ∷ getD l 2 0 ∷ getD l 3 0 ∷ []
+pad4 [] h = refl
+pad4 (a ∷ []) h = refl
+pad4 (a ∷ b ∷ []) h = refl
+pad4 (a ∷ b ∷ c ∷ []) h = refl
+pad4 (a ∷ b ∷ c ∷ d ∷ []) h = refl
+pad4 (a ∷ b ∷ c ∷ d ∷ e ∷ l) h = absurd (omega arith)
+
+pad7 : (l : List ℕ) → take 7 l ++ replicate (7 - length (take 7 l)) 0
+    ≡ getD l 0 0 ∷ getD l 1 0 ∷ getD l 2 0 ∷ getD l 3 0 ∷ getD l 4 0 ∷ getD l 5 0 ∷ getD l 6 0 ∷ []
+pad7 [] = refl
+pad7 (a ∷ []) = refl
+pad7 (a ∷ b ∷ []) = refl
+pad7 (a ∷ b ∷ c ∷ []) = refl
+pad7 (a ∷ b ∷ c ∷ d ∷ []) = refl
+pad7 (a ∷ b ∷ c ∷ d ∷ e ∷ []) = refl
+pad7 (a ∷ b ∷ c ∷ d ∷ e ∷ f ∷ []) = refl
+pad7 (a ∷ b ∷ c ∷ d ∷ e ∷ f ∷ g ∷ l) = refl
+
+-- eight bytes, taken one by one from the held ones, are the part that the definition lays out
+pub part-laid : (held : List ℕ) (len p : ℕ) (t : Bool) (h b0 b1 b2 b3 b4 b5 b6 : ℕ) → len ≤ length held
+    → h ≡ 16 * one t + 2 * (7 - min 7 (len - p)) + one (leb len (p + 7))
+    → b0 ≡ getD (take len held) p 0
+    → b1 ≡ getD (take len held) (p + 1) 0
+    → b2 ≡ getD (take len held) (p + 2) 0
+    → b3 ≡ getD (take len held) (p + 3) 0
+    → b4 ≡ getD (take len held) (p + 4) 0
+    → b5 ≡ getD (take len held) (p + 5) 0
+    → b6 ≡ getD (take len held) (p + 6) 0
+    → (h ∷ b0 ∷ b1 ∷ b2 ∷ b3 ∷ b4 ∷ b5 ∷ b6 ∷ []) ≡ answerOf (partGiven t (take 7 (drop p (take len held))) (leb len (p + 7)))
+unfolding answerOf
+part-laid held len p t h b0 b1 b2 b3 b4 b5 b6 fits eh e0 e1 e2 e3 e4 e5 e6 =
+    let l : List ℕ = drop p (take len held) in
+    let n : length (take 7 l) ≡ min 7 (len - p) = simp (length-take, length-drop) (omega arith) in
+    let z : getD l 0 0 ≡ getD (take len held) p 0 = getD-drop p (take len held) 0 0 ∙ ap (λ (i : ℕ). getD (take len held) i 0) (add-zero p) in
+    ap₂ _∷_ (eh ∙ ap (λ (m : ℕ). 16 * one t + 2 * (7 - m) + one (leb len (p + 7))) (sym n))
+    (sym (pad7 l ∙ cc (z, e0, e1, getD-drop p (take len held) 1 0, e2, getD-drop p (take len held) 2 0, e3, getD-drop p (take len held) 3 0, e4, getD-drop p (take len held) 4 0, e5, getD-drop p (take len held) 5 0, e6, getD-drop p (take len held) 6 0)))
+
+-- a small number in four bytes
+pub little-small : (n : ℕ) → n < 256 → little 4 n ≡ n ∷ 0 ∷ 0 ∷ 0 ∷ []
+unfolding little
+little-small n h =
+    let low : n % 256 ≡ n = omega arith in
+    let rest : n / 256 ≡ 0 = omega arith in
+    rw (low, rest)
+
+-- eight bytes, the value's taken one by one from the held ones, are the opening's answer
+pub short-laid : (k : Key) (held : List ℕ) (len b0 b1 b2 b3 : ℕ) → len ≤ 4 → len ≤ length held
+    → b0 ≡ getD (take len held) 0 0
+    → b1 ≡ getD (take len held) 1 0
+    → b2 ≡ getD (take len held) 2 0
+    → b3 ≡ getD (take len held) 3 0
+    → ((67 + 4 * (4 - len)) ∷ k .index % 256 ∷ k .index / 256 ∷ k .sub ∷ b0 ∷ b1 ∷ b2 ∷ b3 ∷ []) ≡ answerOf (opened k len (take len held) true)
+unfolding answerOf
+short-laid k held len b0 b1 b2 b3 small fits e0 e1 e2 e3 =
+    let n : length (take len held) ≡ len = rw length-take (omega arith) in
+    let s : length (take len held) ≤ 4 = omega arith in
+    let p = pad4 (take len held) s in
+    rw (p, n, e0, e1, e2, e3)

@@ -1,0 +1,112 @@
+-- A record and the transfer that it stands for: each is got back from the other.
+use Prim.Native.Nat.{ℕ, _+_, _≤_, _<_}
+use native.Mathlib.Omega.{arith}
+use mathlib.Core.Path.{_≡_, refl}
+use mathlib.Core.Bool.{Bool, true, false, cond, _&&_}
+use mathlib.Core.List.{List, _++_}
+use lib.Dec.{eqb, ltb}
+use lib.ListN.{length, take, drop, length-append, length-drop, length-take}
+use lib.Seq.{take-at}
+use borrow.Author.Tests.{lt-ltb, eq-eqb, le-leb, ltb-true, eqb-true, leb-true}
+use Rattle.order.specs.Talk.{Request, openRead, nextPart, expedited, openWrite, sendPart, giveUp, unknown, Pending, idle, reading, writing}
+use Rattle.table.specs.Rows.{row-count, at-row}
+use Rattle.table.proofs.Table.{row-rule}
+use Rattle.sdo.specs.declared.Key.{Key}
+use Rattle.sdo.specs.declared.Direction.{Direction}
+use Rattle.sdo.specs.declared.Direction.the-variants.{Neither, Reads, Writes}
+use Rattle.sdo.specs.declared.Transfer.{Transfer}
+use Rattle.sdo.specs.Records.{allZero, keyAt, allows, counts, pending, view, base, lay}
+
+and-true : (a b : Bool) → (a && b) ≡ true → (a ≡ true) × (b ≡ true)
+and-true true b e = (refl, e)
+and-true false b e = (e, cc)
+
+-- a transfer of an entry whose row allows it, of the row's length, with its place inside
+pub record Fits (d : Direction) (row : ℕ) (k : Key) (len place : ℕ) : Type 0 where
+  pub there : row < row-count
+  pub key-is : k ≡ keyAt row
+  pub allowed : allows d (at-row row .access) ≡ true
+  pub length-is : len ≡ at-row row .len
+  pub place-in : place ≤ len
+
+pub at-most-64 : {d : Direction} {row : ℕ} {k : Key} {len place : ℕ} → Fits d row k len place → len ≤ 64
+at-most-64 f = rw (f .length-is) (row-rule _ (f .there) .most)
+
+-- a record that counts fits the table, and one that fits counts
+pub counts-fits : (t : Transfer) → counts t ≡ true → Fits (t .direction) (t .row) (keyAt (t .row)) (t .len) (t .place)
+unfolding counts
+counts-fits t e =
+    let a = and-true (ltb (t .row) row-count) _ e in
+    let b = and-true (allows (t .direction) (at-row (t .row) .access)) _ (a .1) in
+    let c = and-true (eqb (t .len) (at-row (t .row) .len)) _ (b .1) in
+    record { there = ltb-true _ _ (a .0); key-is = refl; allowed = b .0; length-is = eqb-true _ _ (c .0); place-in = leb-true _ _ (c .1) }
+
+pub fits-counts : (t : Transfer) (k : Key) → Fits (t .direction) (t .row) k (t .len) (t .place) → counts t ≡ true
+unfolding counts
+fits-counts t k f = rw (lt-ltb (t .row) row-count (f .there), f .allowed, eq-eqb (t .len) (at-row (t .row) .len) (f .length-is), le-leb (t .place) (t .len) (f .place-in))
+
+-- a transfer that a record with this row can hold
+abbrev pub Valid : ℕ → Pending Key → Type 0
+Valid row idle = Unit {0}
+Valid row (reading k bytes place t) = Fits Reads row k (length bytes) place
+Valid row (writing k low high sent t) = (low ≡ high) × Fits Writes row k high (length sent)
+
+pub view-zero : view allZero ≡ idle
+unfolding view
+view-zero = refl
+
+pub view-lay : (t : Transfer) (x : Pending Key) → Valid (t .row) x → view (lay t x) ≡ x
+unfolding view lay counts pending
+view-lay t idle v = refl
+view-lay t (reading k bytes place u) v =
+    let c = fits-counts (lay t (reading k bytes place u)) k v in
+    rw (c, take-at bytes (drop (length bytes) (t .held)) (length bytes) refl, v .key-is)
+view-lay t (writing k low high sent u) v =
+    let c = fits-counts (lay t (writing k low high sent u)) k (v .1) in
+    rw (c, take-at sent (drop (length sent) (t .held)) (length sent) refl, v .1 .key-is, v .0)
+
+-- a record's bytes are an array of 64
+abbrev pub Whole : Transfer → Type 0
+Whole t = length (t .held) ≡ 64
+
+length-in : (n : ℕ) (l : List ℕ) → n ≤ 64 → length l ≡ 64 → length (take n l) ≡ n
+length-in n l h e = rw length-take (omega arith)
+
+valid-pending : (d : Direction) (t : Transfer) → Whole t → Fits d (t .row) (keyAt (t .row)) (t .len) (t .place) → Valid (t .row) (pending d t)
+unfolding pending
+valid-pending Neither t w f = tt
+valid-pending Reads t w f = rw (length-in (t .len) (t .held) (at-most-64 f) w) f
+valid-pending Writes t w f =
+    let n : t .len ≤ 64 = at-most-64 f in
+    let p : t .place ≤ t .len = f .place-in in
+    (refl, rw (length-in (t .place) (t .held) (omega arith) w) f)
+
+pub valid-view : (t : Transfer) → Whole t → Valid (t .row) (view t)
+unfolding view
+valid-view t w = go (counts t) refl
+  where
+    go : (d : Bool) → counts t ≡ d → Valid (t .row) (cond d (pending (t .direction) t) idle)
+    go true e = valid-pending (t .direction) t w (counts-fits t e)
+    go false e = tt
+
+whole-over : (bytes l : List ℕ) → length bytes ≤ 64 → length l ≡ 64 → length (bytes ++ drop (length bytes) l) ≡ 64
+whole-over bytes l h e = rw (length-append, length-drop) (omega arith)
+
+pub whole-lay : (t : Transfer) (x : Pending Key) → Whole t → Valid (t .row) x → Whole (lay t x)
+unfolding lay
+whole-lay t idle w v = refl
+whole-lay t (reading k bytes place u) w v = whole-over bytes (t .held) (at-most-64 v) w
+whole-lay t (writing k low high sent u) w v =
+    let n : high ≤ 64 = at-most-64 (v .1) in
+    let p : length sent ≤ high = v .1 .place-in in
+    whole-over sent (t .held) (omega arith) w
+
+pub whole-base : (t : Transfer) (a : Request Key) → Whole t → Whole (base t a)
+unfolding base
+whole-base t (openRead k) w = refl
+whole-base t (nextPart u) w = w
+whole-base t (expedited k s bytes) w = refl
+whole-base t (openWrite k n bytes) w = refl
+whole-base t (sendPart u bytes last) w = w
+whole-base t giveUp w = refl
+whole-base t unknown w = refl

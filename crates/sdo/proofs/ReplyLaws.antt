@@ -1,0 +1,125 @@
+-- What the replies to openings and parts come to, by the lengths.
+use Prim.Native.Nat.{ℕ, zero, suc, _-_, _/_, _%_, _≤_, _<_}
+use native.Mathlib.Omega.{arith}
+use mathlib.Core.Path.{_≡_, refl, ap, subst}
+use mathlib.Core.Bool.{Bool, true, false, _&&_}
+use mathlib.Core.List.{List}
+use lib.Dec.{leb}
+use lib.ListN.{length, take, drop, getD, length-take}
+use lib.Seq.{take-take}
+use borrow.Author.Tests.{lt-ltb, le-ltb, leb-true}
+use Rattle.wire.proofs.SpliceLaws.{part-length}
+use Rattle.table.specs.Rows.{at-row}
+use Rattle.order.specs.Talk.{announced, unsaid, own}
+use Rattle.order.specs.Gauge.{tooLong, tooShort}
+use Rattle.sdo.specs.declared.Key.{Key}
+use Rattle.sdo.specs.declared.Message.{Message}
+use Rattle.sdo.specs.declared.Message.the-variants.{SendPart, WriteSized, WriteOwn, OpenAnnounced, OpenUnsaid, OpenRead, NextPart, GiveUp, Unknown}
+use Rattle.sdo.specs.Eight.{bit, choice, openingBy, messageOf, asked, askOf}
+use Rattle.sdo.specs.Lines.{short}
+use Rattle.sdo.specs.Replies.{refusal, openWriteReply, valueReply, expeditedReply}
+use Rattle.sdo.proofs.Facts.{and-right}
+
+and-left : (a b : Bool) → (a && b) ≡ true → a ≡ true
+and-left true b e = refl
+and-left false b e = e
+
+pub short-in : (n : ℕ) → short n ≡ true → (1 ≤ n) × (n ≤ 4)
+short-in n e = (leb-true 1 n (and-left (leb 1 n) (leb n 4) e), leb-true n 4 (and-right (leb 1 n) (leb n 4) e))
+
+-- ---- a length announced against the row's
+
+module _ (row n : ℕ) where
+  pub announced-long : at-row row .len < n → openWriteReply row (announced n) ≡ refusal row tooLong
+  unfolding openWriteReply
+  announced-long h = simp (lt-ltb (at-row row .len) n h)
+
+  pub announced-short : n < at-row row .len → openWriteReply row (announced n) ≡ refusal row tooShort
+  unfolding openWriteReply
+  announced-short h = simp (le-ltb (at-row row .len) n (omega arith), lt-ltb n (at-row row .len) h)
+
+  pub announced-right : n ≡ at-row row .len → openWriteReply row (announced n) ≡ openWriteReply row unsaid
+  unfolding openWriteReply
+  announced-right e = simp (le-ltb (at-row row .len) n (omega arith), le-ltb n (at-row row .len) (omega arith)) (rw e)
+
+  module _ (bytes : List ℕ) where
+    pub sized-long : at-row row .len < n → expeditedReply row (announced n) bytes ≡ refusal row tooLong
+    unfolding expeditedReply
+    sized-long h = simp (lt-ltb (at-row row .len) n h)
+
+    pub sized-short : n < at-row row .len → expeditedReply row (announced n) bytes ≡ refusal row tooShort
+    unfolding expeditedReply
+    sized-short h = simp (le-ltb (at-row row .len) n (omega arith), lt-ltb n (at-row row .len) h)
+
+-- ---- the value in bytes 4 to 7
+
+module _ (row : ℕ) (m : List ℕ) (eight : length m ≡ 8) where
+  pub sized-right : (n : ℕ) → n ≡ at-row row .len → n ≤ 4 → expeditedReply row (announced n) (take n (drop 4 m)) ≡ valueReply row n m
+  unfolding expeditedReply
+  sized-right n e h =
+      let l : length (take n (drop 4 m)) ≡ n = part-length m 4 n (omega arith) in
+      simp (le-ltb (at-row row .len) n (omega arith), le-ltb n (at-row row .len) (omega arith), l, le-ltb n n (omega arith))
+
+  pub own-short : 4 < at-row row .len → expeditedReply row own (take 4 (drop 4 m)) ≡ refusal row tooShort
+  unfolding expeditedReply
+  own-short h =
+      let l : length (take (at-row row .len) (take 4 (drop 4 m))) ≡ 4 = rw (length-take, part-length m 4 4 (omega arith)) (omega arith) in
+      simp (l, le-ltb (at-row row .len) 4 (omega arith), lt-ltb 4 (at-row row .len) h)
+
+  pub own-right : (n : ℕ) → n ≡ at-row row .len → n ≤ 4 → expeditedReply row own (take 4 (drop 4 m)) ≡ valueReply row n m
+  unfolding expeditedReply
+  own-right n e h =
+      let t : take n (take 4 (drop 4 m)) ≡ take n (drop 4 m) = take-take n 4 (drop 4 m) h in
+      let l : length (take n (drop 4 m)) ≡ n = part-length m 4 n (omega arith) in
+      rw (← e, t) (simp (l, le-ltb n n (omega arith)))
+
+-- ---- a message by what it says
+
+pub ask-is : (m : List ℕ) (a : Message) → messageOf m ≡ a → askOf m ≡ asked a m
+unfolding askOf
+ask-is m a e = ap (λ (b : Message). asked b m) e
+
+-- a part has at most seven bytes, a value in an opening at most four
+Counted : Message → Type 0
+Counted (SendPart t n last) = n ≤ 7
+Counted (WriteSized k n) = n ≤ 4
+Counted (WriteOwn k) = Unit {0}
+Counted (OpenAnnounced k n) = Unit {0}
+Counted (OpenUnsaid k) = Unit {0}
+Counted (OpenRead k) = Unit {0}
+Counted (NextPart t) = Unit {0}
+Counted GiveUp = Unit {0}
+Counted Unknown = Unit {0}
+
+counted-opening : (d c : Bool) (m : List ℕ) → Counted (openingBy d c m)
+unfolding Counted openingBy
+counted-opening true true m = omega arith
+counted-opening true false m = tt
+counted-opening false true m = tt
+counted-opening false false m = tt
+
+counted-choice : (n : ℕ) (a₀ a₁ a₂ a₃ a₄ above : Message) → Counted a₀ → Counted a₁ → Counted a₂ → Counted a₃ → Counted a₄ → Counted above
+    → Counted (choice n a₀ a₁ a₂ a₃ a₄ above)
+unfolding choice
+counted-choice zero a₀ a₁ a₂ a₃ a₄ above h₀ h₁ h₂ h₃ h₄ h = h₀
+counted-choice (suc zero) a₀ a₁ a₂ a₃ a₄ above h₀ h₁ h₂ h₃ h₄ h = h₁
+counted-choice (suc (suc zero)) a₀ a₁ a₂ a₃ a₄ above h₀ h₁ h₂ h₃ h₄ h = h₂
+counted-choice (suc (suc (suc zero))) a₀ a₁ a₂ a₃ a₄ above h₀ h₁ h₂ h₃ h₄ h = h₃
+counted-choice (suc (suc (suc (suc zero)))) a₀ a₁ a₂ a₃ a₄ above h₀ h₁ h₂ h₃ h₄ h = h₄
+counted-choice (suc (suc (suc (suc (suc n))))) a₀ a₁ a₂ a₃ a₄ above h₀ h₁ h₂ h₃ h₄ h = h
+
+seven-less : (n : ℕ) → 7 - n ≤ 7
+seven-less n = omega arith
+
+counted-message : (m : List ℕ) → Counted (messageOf m)
+unfolding messageOf Counted
+counted-message m =
+    counted-choice (getD m 0 0 / 32) _ _ _ _ _ _ (seven-less (getD m 0 0 / 2 % 8)) (counted-opening (bit 2 (getD m 0 0)) (bit 1 (getD m 0 0)) m) tt tt tt tt
+
+pub part-count : (m : List ℕ) (t : Bool) (n : ℕ) (last : Bool) → messageOf m ≡ SendPart t n last → n ≤ 7
+unfolding Counted
+part-count m t n last e = subst Counted e (counted-message m)
+
+pub value-count : (m : List ℕ) (k : Key) (n : ℕ) → messageOf m ≡ WriteSized k n → n ≤ 4
+unfolding Counted
+value-count m k n e = subst Counted e (counted-message m)

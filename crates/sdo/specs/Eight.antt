@@ -1,0 +1,132 @@
+-- EIGHT BYTES IN, EIGHT BYTES OUT: `askOf` is what a message asks, `answerOf` the bytes of an answer, and `tellOf` what a client
+-- reads in them. Bits and bytes of a message to which document 01 gives no meaning have none.
+use Prim.Native.Nat.{ℕ, zero, suc, _+_, _-_, _*_, _/_, _%_, _≤_, _<_}
+use mathlib.Core.Path.{_≡_}
+use mathlib.Core.Bool.{Bool, true, false, cond}
+use mathlib.Core.List.{List, [], _∷_, _++_}
+use mathlib.Core.Option.{none, some}
+use lib.Dec.{eqb}
+use lib.ListN.{length, take, drop, getD, replicate}
+use Rattle.wire.specs.Little.{little, number}
+use Rattle.order.specs.Talk.{announced, own, Request, openRead, nextPart, expedited, openWrite, sendPart, giveUp, unknown, Answer, opened, partGiven, writeOpened, partTaken, refused, wrongToggle, noTransfer, silent}
+use Rattle.sdo.specs.declared.Key.{Key}
+use Rattle.sdo.specs.declared.Message.{Message}
+use Rattle.sdo.specs.declared.Message.the-variants.{SendPart, WriteSized, WriteOwn, OpenAnnounced, OpenUnsaid, OpenRead, NextPart, GiveUp, Unknown}
+
+-- "Index is bytes 1-2 little-endian, subindex byte 3"
+abbrev pub keyOf : List ℕ → Key
+keyOf m = record { index = getD m 1 0 + 256 * getD m 2 0; sub = getD m 3 0 }
+
+abbrev pub keyBytes : Key → List ℕ
+keyBytes k = k .index % 256 ∷ k .index / 256 ∷ k .sub ∷ []
+
+-- a bit, by its weight
+abbrev pub bit : ℕ → ℕ → Bool
+bit weight b = eqb (b / weight % 2) 1
+
+abbrev pub one : Bool → ℕ
+one true = 1
+one false = 0
+
+-- "Top three bits of byte 0 choose": 0 to 4, and 5 to 7 as a range
+unfoldable pub choice : {A : Type 0} → ℕ → A → A → A → A → A → A → A
+choice zero a₀ a₁ a₂ a₃ a₄ above = a₀
+choice (suc zero) a₀ a₁ a₂ a₃ a₄ above = a₁
+choice (suc (suc zero)) a₀ a₁ a₂ a₃ a₄ above = a₂
+choice (suc (suc (suc zero))) a₀ a₁ a₂ a₃ a₄ above = a₃
+choice (suc (suc (suc (suc zero)))) a₀ a₁ a₂ a₃ a₄ above = a₄
+choice (suc (suc (suc (suc (suc n))))) a₀ a₁ a₂ a₃ a₄ above = above
+
+-- "1, open a write. Bit 1 set: value in bytes 4-7; with bit 0 set, bits 3..2 give the unused bytes, else the entry's own length is meant ..
+-- Bit 1 clear: length announced in bytes 4-7 if bit 0 is set, else unknown"
+unfoldable pub openingBy : Bool → Bool → List ℕ → Message
+openingBy true true m = WriteSized (keyOf m) (4 - getD m 0 0 / 4 % 4)
+openingBy true false m = WriteOwn (keyOf m)
+openingBy false true m = OpenAnnounced (keyOf m) (number m 4 4)
+openingBy false false m = OpenUnsaid (keyOf m)
+
+abbrev pub openingOf : List ℕ → Message
+openingOf m = openingBy (bit 2 (getD m 0 0)) (bit 1 (getD m 0 0)) m
+
+-- what a message says; a part is laid out as an answer's: "toggle in bit 4, unused bytes of seven in bits 3..1, bit 0 set on the last part"
+unfoldable pub messageOf : List ℕ → Message
+unfolding choice openingBy
+messageOf m =
+    choice (getD m 0 0 / 32)
+    (SendPart (bit 16 (getD m 0 0)) (7 - getD m 0 0 / 2 % 8) (bit 1 (getD m 0 0)))
+    (openingOf m)
+    (OpenRead (keyOf m))
+    (NextPart (bit 16 (getD m 0 0)))
+    GiveUp
+    Unknown
+
+-- the same with the bytes of a write, which stand in the message
+unfoldable pub asked : Message → List ℕ → Request Key
+asked (SendPart t n last) m = sendPart t (take n (drop 1 m)) last
+asked (WriteSized k n) m = expedited k (announced n) (take n (drop 4 m))
+asked (WriteOwn k) m = expedited k own (take 4 (drop 4 m))
+asked (OpenAnnounced k n) m = openWrite k (some n) []
+asked (OpenUnsaid k) m = openWrite k none []
+asked (OpenRead k) m = openRead k
+asked (NextPart t) m = nextPart t
+asked GiveUp m = giveUp
+asked Unknown m = unknown
+
+unfoldable pub askOf : List ℕ → Request Key
+unfolding asked messageOf
+askOf m = asked (messageOf m) m
+
+-- "specifier and matching transfer 05040001; toggle 05030000"
+abbrev pub transferCode : ℕ
+transferCode = 0x05040001
+
+abbrev pub toggleCode : ℕ
+toggleCode = 0x05030000
+
+-- "An abort answer is 80, index, subindex, code little-endian; with 05040001 index and subindex are zero"
+unfoldable pub answerOf : Answer Key → List ℕ
+unfolding little
+answerOf (opened k n bytes true) = (0x43 + 4 * (4 - length bytes)) ∷ keyBytes k ++ bytes ++ replicate (4 - length bytes) 0
+answerOf (opened k n bytes false) = 0x41 ∷ keyBytes k ++ little 4 n
+answerOf (partGiven t bytes last) = (16 * one t + 2 * (7 - length bytes) + one last) ∷ bytes ++ replicate (7 - length bytes) 0
+answerOf (writeOpened k) = 0x60 ∷ keyBytes k ++ replicate 4 0
+answerOf (partTaken t) = (0x20 + 16 * one t) ∷ replicate 7 0
+answerOf (refused k c) = 0x80 ∷ keyBytes k ++ little 4 c
+answerOf (wrongToggle k) = 0x80 ∷ keyBytes k ++ little 4 toggleCode
+answerOf noTransfer = 0x80 ∷ replicate 3 0 ++ little 4 transferCode
+answerOf silent = []
+
+-- THE CLIENT'S READING. A code tells which abort it is
+unfoldable pub abortOf : Key → ℕ → Answer Key
+abortOf k c = cond (eqb c transferCode) noTransfer (cond (eqb c toggleCode) (wrongToggle k) (refused k c))
+
+unfoldable pub tellOf : List ℕ → Answer Key
+unfolding choice abortOf
+tellOf [] = silent
+tellOf (b ∷ rest) =
+    let a : List ℕ = b ∷ rest in
+    choice (b / 32)
+    (partGiven (bit 16 b) (take (7 - b / 2 % 8) rest) (bit 1 b))
+    (partTaken (bit 16 b))
+    (cond (bit 2 b) (opened (keyOf a) (4 - b / 4 % 4) (take (4 - b / 4 % 4) (drop 4 a)) true) (opened (keyOf a) (number a 4 4) [] false))
+    (writeOpened (keyOf a))
+    (abortOf (keyOf a) (number a 4 4))
+    silent
+
+-- a code that four bytes hold and that is none of the two before 06020000
+pub record Code (c : ℕ) : Type 0 where
+  pub fits : c < 0x1_0000_0000
+  pub not-transfer : eqb c transferCode ≡ false
+  pub not-toggle : eqb c toggleCode ≡ false
+
+-- the answers that eight bytes carry
+abbrev pub Carried : Answer Key → Type 0
+Carried (opened k n bytes true) = (n ≡ length bytes) × (1 ≤ length bytes) × (length bytes ≤ 4)
+Carried (opened k n bytes false) = (bytes ≡ []) × (n < 0x1_0000_0000)
+Carried (partGiven t bytes last) = length bytes ≤ 7
+Carried (writeOpened k) = Unit {0}
+Carried (partTaken t) = Unit {0}
+Carried (refused k c) = Code c
+Carried (wrongToggle k) = Unit {0}
+Carried noTransfer = Unit {0}
+Carried silent = Unit {0}

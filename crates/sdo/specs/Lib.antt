@@ -1,0 +1,4 @@
+pub mod Eight
+pub mod Lines
+pub mod Records
+pub mod Replies

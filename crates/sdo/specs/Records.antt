@@ -1,0 +1,168 @@
+-- THE BOARD WITH ITS RECORDS BY VALUE: `speak` is one message of one line, on the store and that line's record; `recordCall` is what the
+-- board's calls are held to. The struct `Transfer` is the code's own: of a read `held` begins with the value, of a write with the bytes sent.
+use Prim.Native.Nat.{ℕ, _%_}
+use mathlib.Core.Path.{_≡_}
+use mathlib.Core.Bool.{Bool, true, false, cond, _&&_}
+use mathlib.Core.List.{List, [], _∷_, _++_, map}
+use mathlib.Core.Option.{Option}
+use lib.Dec.{eqb, leb, ltb}
+use lib.ListN.{length, take, drop, replicate}
+use Rattle.order.specs.Talk.{Request, openRead, nextPart, expedited, openWrite, sendPart, giveUp, unknown, value, sizes, Pending, idle, reading, writing}
+use Rattle.order.specs.Gauge.{results, endOf}
+use Rattle.order.specs.Serve.{After, kept, wiped, left, Served, serve}
+use Rattle.order.specs.Observe.{Done, follow}
+use Rattle.order.specs.Promise.{opsOf, gotOf, Right}
+use Rattle.order.specs.Bytes.{heard, fed, meant, reads, client}
+use Rattle.table.specs.Rows.{row-count, at-row}
+use Rattle.table.specs.Find.{find-row}
+use Rattle.table.specs.declared.Found.{Found}
+use Rattle.table.specs.declared.Found.the-variants.{At, NoIndex, NoSub}
+use Rattle.sdo.specs.declared.Key.{Key}
+use Rattle.sdo.specs.declared.Direction.{Direction}
+use Rattle.sdo.specs.declared.Direction.the-variants.{Neither, Reads, Writes}
+use Rattle.sdo.specs.declared.Transfer.{Transfer}
+use Rattle.sdo.specs.Eight.{askOf, answerOf}
+use Rattle.sdo.specs.Lines.{Entries, gauge, eight, Line, Both, atLine, setLine, both, twoLines, eightCodec, BoardCall}
+
+-- "An ended or dropped transfer leaves its record all zero"
+abbrev pub allZero : Transfer
+allZero = record { held = replicate 64 0; row = 0; direction = Neither; len = 0; place = 0; toggle = false }
+
+-- the entry of a row, and the row of an entry
+abbrev pub keyAt : ℕ → Key
+keyAt row = record { index = at-row row .index; sub = at-row row .sub }
+
+unfoldable pub numberOf : Found → ℕ
+numberOf (At row) = row
+numberOf NoIndex = 0
+numberOf NoSub = 0
+
+abbrev pub rowNumber : Key → ℕ
+rowNumber k = numberOf (find-row (k .index) (k .sub))
+
+-- does an access (1 read only, 2 write only, 3 both) allow the direction?
+unfoldable pub allows : Direction → ℕ → Bool
+allows Neither access = false
+allows Reads access = eqb (access % 2) 1
+allows Writes access = leb 2 access
+
+-- "A transfer record whose row is outside the table or does not allow its direction, whose length is not the row's or whose place is beyond the
+-- length counts as none; any other is served as it stands"
+unfoldable pub counts : Transfer → Bool
+unfolding allows
+counts t = ltb (t .row) row-count && (allows (t .direction) (at-row (t .row) .access) && (eqb (t .len) (at-row (t .row) .len) && leb (t .place) (t .len)))
+
+unfoldable pub pending : Direction → Transfer → Pending Key
+pending Neither t = idle
+pending Reads t = reading (keyAt (t .row)) (take (t .len) (t .held)) (t .place) (t .toggle)
+pending Writes t = writing (keyAt (t .row)) (t .len) (t .len) (take (t .place) (t .held)) (t .toggle)
+
+-- the transfer that a record stands for
+unfoldable pub view : Transfer → Pending Key
+unfolding counts pending
+view t = cond (counts t) (pending (t .direction) t) idle
+
+-- what a line's next record is laid over: "an opening starts from [all zero]", with the entry's row; a part goes on with the record
+abbrev pub zeroAt : ℕ → Transfer
+zeroAt row = record { held = replicate 64 0; row = row; direction = Neither; len = 0; place = 0; toggle = false }
+
+unfoldable pub base : Transfer → Request Key → Transfer
+unfolding numberOf
+base t (openRead k) = zeroAt (rowNumber k)
+base t (nextPart u) = t
+base t (expedited k s bytes) = allZero
+base t (openWrite k n bytes) = zeroAt (rowNumber k)
+base t (sendPart u bytes last) = t
+base t giveUp = allZero
+base t unknown = allZero
+
+-- the record of a transfer, laid over another; "an ended or dropped transfer leaves its record all zero"
+unfoldable pub lay : Transfer → Pending Key → Transfer
+lay t idle = allZero
+lay t (reading k bytes place toggle) =
+    record { held = bytes ++ drop (length bytes) (t .held); row = t .row; direction = Reads; len = length bytes; place = place; toggle = toggle }
+lay t (writing k low high sent toggle) =
+    record { held = sent ++ drop (length sent) (t .held); row = t .row; direction = Writes; len = high; place = length sent; toggle = toggle }
+
+-- what one message of a line comes to: the store, the line's record, whether a device reset drops the transfers of all lines, and the answer's
+-- bytes (none: no answer)
+pub record Spoken (S : Type 0) : Type 0 where
+  pub store : S
+  pub next : Transfer
+  pub reset : Bool
+  pub bytes : List ℕ
+
+abbrev pub is-wiped : After Key → Bool
+is-wiped (kept x) = false
+is-wiped wiped = true
+
+module _ (E : Entries) where
+  abbrev pub spoken : Transfer → Served (gauge E) → Spoken (E .Store)
+  spoken t s = record { store = s .store; next = lay t (left (s .after)); reset = is-wiped (s .after); bytes = answerOf (s .answer) }
+
+  -- ONE MESSAGE on a line with record t
+  unfoldable pub speak : E .Store → Transfer → List ℕ → Spoken (E .Store)
+  speak g t m = spoken (base t (askOf m)) (serve (gauge E) eight g (view t) (askOf m))
+
+  pub record RecordBoard : Type 0 where
+    pub store : E .Store
+    pub records : Both Transfer
+
+  -- "Device reset .. drops both lines' transfers"
+  abbrev pub recordsAfter : Both Transfer → Line → Spoken (E .Store) → Both Transfer
+  recordsAfter rs l s = cond (s .reset) (both allZero) (setLine rs l (s .next))
+
+  -- ONE CALL
+  unfoldable pub recordCall : RecordBoard → BoardCall E → RecordBoard × List ℕ
+  recordCall b (heard l m) =
+      let s : Spoken (E .Store) = speak (b .store) (atLine (b .records) l) m in
+      (record { store = s .store; records = recordsAfter (b .records) l s }, s .bytes)
+  recordCall b (fed s) = (record { store = E .sampled (b .store) s; records = b .records }, [])
+
+  unfoldable pub recordTalk : RecordBoard → List (BoardCall E) → List (BoardCall E × List ℕ)
+  recordTalk b [] = []
+  recordTalk b (c ∷ cs) = (c, (recordCall b c) .1) ∷ recordTalk ((recordCall b c) .0) cs
+
+  unfoldable pub recordEnd : RecordBoard → List (BoardCall E) → RecordBoard
+  recordEnd b [] = b
+  recordEnd b (c ∷ cs) = recordEnd ((recordCall b c) .0) cs
+
+  -- "Power-up: .. both transfer records all zero whatever they held"
+  abbrev pub recordStart : E .Store → RecordBoard
+  recordStart g = record { store = g; records = both allZero }
+
+  -- what is asked of the table: a value that is read, and an entry that may be written, have a row that allows it and the row's length
+  pub record RowOf (d : Direction) (k : Key) (n : ℕ) : Type 0 where
+    pub row : ℕ
+    pub found : find-row (k .index) (k .sub) ≡ At row
+    pub allowed : allows d (at-row row .access) ≡ true
+    pub length-is : n ≡ at-row row .len
+
+  pub record Rows : Type 0 where
+    pub read-row : (g : E .Store) (k : Key) (bytes : List ℕ) → E .readWhole g k ≡ value bytes → RowOf Reads k (length bytes)
+    pub write-row : (k : Key) (low high : ℕ) → E .rowOf k ≡ sizes low high → (low ≡ high) × RowOf Writes k high
+
+  -- the finished operations, as the client sees them in the bytes
+  abbrev pub recordClient : E .Store → List (BoardCall E) → List (Done (gauge E))
+  recordClient g cs = client (gauge E) (twoLines idle) (λ l. eight) (λ l. eightCodec) (recordTalk (recordStart g) cs)
+
+  -- DEMAND 3, of the board with its records
+  pub record Demand3Records (g : E .Store) (cs : List (BoardCall E)) : Type 0 where
+    pub same-results : results (gauge E) g (opsOf (gauge E) (recordClient g cs)) ≡ gotOf (gauge E) (recordClient g cs)
+    pub same-end : endOf (gauge E) g (opsOf (gauge E) (recordClient g cs)) ≡ (recordEnd (recordStart g) cs) .store
+
+  -- "anything but a device reset": none is done in these calls
+  abbrev pub NoReset : RecordBoard → List (BoardCall E) → Type 0
+  NoReset b [] = Unit {0}
+  NoReset b (heard l m ∷ cs) = ((speak (b .store) (atLine (b .records) l) m) .reset ≡ false) × NoReset ((recordCall b (heard l m)) .0) cs
+  NoReset b (fed s ∷ cs) = NoReset ((recordCall b (fed s)) .0) cs
+
+  -- after message m of line l these calls come: l's own messages among them ask for parts "with right toggles", which start at 0
+  pub record RecordParts (l : Line) (b : RecordBoard) (m : List ℕ) (cs : List (BoardCall E)) : Type 0 where
+    pub right : Right (gauge E) (twoLines idle) (λ l. eight) l (map (meant (gauge E) (twoLines idle) (λ l. eight) (λ l. eightCodec)) cs) false
+    pub calm : NoReset ((recordCall b (heard l m)) .0) cs
+
+  -- the value that the client has after these calls, if the read that m opened is finished
+  abbrev pub recordGot : Line → RecordBoard → List ℕ → List (BoardCall E) → Option (List ℕ)
+  recordGot l b m cs =
+      follow (gauge E) (twoLines idle) (λ l. eight) l (map (reads (gauge E) (twoLines idle) (λ l. eight) (λ l. eightCodec)) (recordTalk ((recordCall b (heard l m)) .0) cs)) []

@@ -1,0 +1,137 @@
+// The eight bytes of each answer.
+use crate::Key;
+ghost use mathlib.Core.Bool.{true, false};
+ghost use mathlib.Core.List.{[]};
+ghost use mathlib.Core.Path.{_≡_};
+ghost use Prim.Native.Nat.{_+_, _-_, _*_, _≤_, min};
+ghost use lib.Dec.{leb};
+ghost use lib.ListN.{take, drop, getD};
+ghost use Rattle.order.specs.Talk.{opened, partGiven, writeOpened, partTaken, refused, wrongToggle, noTransfer};
+ghost use Rattle.sdo.specs.Eight.{one, answerOf};
+
+pub fn abort(k: Key, code: u32) -> [u8; 8]
+    ensures { λ r. ⌜ r ≡ answerOf (refused k code) ⌝ }
+{
+    let second = code / 256;
+    let third = second / 256;
+    let fourth = third / 256;
+    [
+        0x80,
+        (k.index % 256) as u8,
+        (k.index / 256) as u8,
+        k.sub,
+        (code % 256) as u8,
+        (second % 256) as u8,
+        (third % 256) as u8,
+        (fourth % 256) as u8,
+    ]
+}
+
+pub fn wrong_toggle(k: Key) -> [u8; 8]
+    ensures { λ r. ⌜ r ≡ answerOf (wrongToggle k) ⌝ }
+{
+    abort(k, 0x05030000)
+}
+
+pub fn no_transfer() -> [u8; 8]
+    ensures { λ r. ⌜ r ≡ answerOf noTransfer ⌝ }
+{
+    [0x80, 0, 0, 0, 1, 0, 4, 5]
+}
+
+pub fn write_opened(k: Key) -> [u8; 8]
+    ensures { λ r. ⌜ r ≡ answerOf (writeOpened k) ⌝ }
+{
+    [
+        0x60,
+        (k.index % 256) as u8,
+        (k.index / 256) as u8,
+        k.sub,
+        0,
+        0,
+        0,
+        0,
+    ]
+}
+
+pub fn part_taken(toggle: bool) -> [u8; 8]
+    ensures { λ r. ⌜ r ≡ answerOf (partTaken toggle) ⌝ }
+{
+    if toggle {
+        return [0x30, 0, 0, 0, 0, 0, 0, 0];
+    }
+    [0x20, 0, 0, 0, 0, 0, 0, 0]
+}
+
+// The opening of a read that is longer than four bytes.
+pub fn opened_long(k: Key, len: usize) -> [u8; 8]
+    requires { ⌜ len ≤ 64 ⌝ }
+    ensures { λ r. ⌜ r ≡ answerOf (opened k len [] false) ⌝ }
+{
+    [
+        0x41,
+        (k.index % 256) as u8,
+        (k.index / 256) as u8,
+        k.sub,
+        len as u8,
+        0,
+        0,
+        0,
+    ]
+}
+
+// The byte at i of the first len bytes held, or 0 past them.
+pub fn byte_at(held: [u8; 64], len: usize, i: usize) -> u8
+    requires { ⌜ len ≤ 64 ⌝ }
+    ensures { λ r. ⌜ r ≡ getD (take len held) i 0 ⌝ }
+{
+    if i < len { held[i] } else { 0 }
+}
+
+// The opening of a read of up to four bytes, with the value.
+pub fn opened_short(k: Key, held: [u8; 64], len: usize) -> [u8; 8]
+    requires { ⌜ (1 ≤ len) × (len ≤ 4) ⌝ }
+    ensures { λ r. ⌜ r ≡ answerOf (opened k len (take len held) true) ⌝ }
+{
+    [
+        (67 + 4 * (4 - len)) as u8,
+        (k.index % 256) as u8,
+        (k.index / 256) as u8,
+        k.sub,
+        byte_at(held, len, 0),
+        byte_at(held, len, 1),
+        byte_at(held, len, 2),
+        byte_at(held, len, 3),
+    ]
+}
+
+// Byte 0 of a part of a read: toggle, unused bytes of seven, last mark.
+pub fn part_head(toggle: bool, len: usize, place: usize) -> u8
+    requires { ⌜ (len ≤ 64) × (place ≤ len) ⌝ }
+    ensures { λ r. ⌜ r ≡ 16 * one toggle + 2 * (7 - min 7 (len - place)) + one (leb len (place + 7)) ⌝ }
+{
+    if len <= place + 7 {
+        let unused = (place + 7) - len;
+        if toggle {
+            return (17 + 2 * unused) as u8;
+        }
+        return (1 + 2 * unused) as u8;
+    }
+    if toggle { 16 } else { 0 }
+}
+
+pub fn part_given(held: [u8; 64], len: usize, place: usize, toggle: bool) -> [u8; 8]
+    requires { ⌜ (len ≤ 64) × (place ≤ len) ⌝ }
+    ensures { λ r. ⌜ r ≡ answerOf (partGiven toggle (take 7 (drop place (take len held))) (leb len (place + 7))) ⌝ }
+{
+    [
+        part_head(toggle, len, place),
+        byte_at(held, len, place),
+        byte_at(held, len, place + 1),
+        byte_at(held, len, place + 2),
+        byte_at(held, len, place + 3),
+        byte_at(held, len, place + 4),
+        byte_at(held, len, place + 5),
+        byte_at(held, len, place + 6),
+    ]
+}

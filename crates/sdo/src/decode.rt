@@ -1,0 +1,73 @@
+// What a message says.
+use crate::Key;
+use crate::Message;
+ghost use mathlib.Core.Path.{_≡_};
+ghost use Prim.Native.Nat.{_≤_, _<_};
+ghost use lib.ListN.{length};
+ghost use Rattle.sdo.specs.Eight.{bit, keyOf, openingOf, messageOf};
+
+fn wide(b: u8) -> usize
+    ensures { λ r. ⌜ (r ≡ b) × (r < 256) ⌝ }
+{
+    b as usize
+}
+
+fn wide16(b: u8) -> u16
+    ensures { λ r. ⌜ (r ≡ b) × (r < 256) ⌝ }
+{
+    b as u16
+}
+
+pub fn bit_of(weight: u8, b: u8) -> bool
+    requires { ⌜ 1 ≤ weight ⌝ }
+    ensures { λ r. ⌜ r ≡ bit weight b ⌝ }
+{
+    b / weight % 2 == 1
+}
+
+pub fn key_of(m: &[u8]) -> Key
+    requires { ⌜ length (now m) ≡ 8 ⌝ }
+    ensures { λ r. ⌜ r ≡ keyOf (now (m .entry)) ⌝ }
+{
+    let low = wide16(m[1]);
+    let high = wide16(m[2]);
+    Key {
+        index: low + 256 * high,
+        sub: m[3],
+    }
+}
+
+// The opening of a write: with the value in it or not, with a length or not.
+pub fn opening_of(m: &[u8]) -> Message
+    requires { ⌜ length (now m) ≡ 8 ⌝ }
+    ensures { λ r. ⌜ r ≡ openingOf (now (m .entry)) ⌝ }
+{
+    let first = m[0];
+    if bit_of(2, first) {
+        if bit_of(1, first) {
+            return Message::WriteSized(key_of(m), 4 - wide(first / 4 % 4));
+        }
+        return Message::WriteOwn(key_of(m));
+    }
+    if bit_of(1, first) {
+        return Message::OpenAnnounced(key_of(m), wire::word_at(m, 4));
+    }
+    Message::OpenUnsaid(key_of(m))
+}
+
+pub fn message_of(m: &[u8]) -> Message
+    requires { ⌜ length (now m) ≡ 8 ⌝ }
+    ensures { λ r. ⌜ r ≡ messageOf (now (m .entry)) ⌝ }
+{
+    let first = m[0];
+    let specifier = first / 32;
+    match specifier {
+        0 => Message::SendPart(bit_of(16, first), 7 - wide(first / 2 % 8), bit_of(1, first)),
+        1 => opening_of(m),
+        2 => Message::OpenRead(key_of(m)),
+        3 => Message::NextPart(bit_of(16, first)),
+        4 => Message::GiveUp,
+        5..=7 => Message::Unknown,
+        _ => Message::Unknown,
+    }
+}

@@ -1,0 +1,55 @@
+// The eight bytes of a message and of an answer, and the transfer that a line holds, all by value.
+pub mod answer;
+pub mod decode;
+pub mod opening;
+pub mod record;
+
+// An entry's name: index and subindex.
+pub struct Key {
+    pub index: u16,
+    pub sub: u8,
+}
+
+// What a message says. The bytes of a write stay in the message; their count stands here.
+pub enum Message {
+    // toggle, count of bytes, last
+    SendPart(bool, usize, bool),
+    WriteSized(Key, usize),
+    WriteOwn(Key),
+    OpenAnnounced(Key, u32),
+    OpenUnsaid(Key),
+    OpenRead(Key),
+    NextPart(bool),
+    GiveUp,
+    Unknown,
+}
+
+pub enum Direction {
+    Neither,
+    Reads,
+    Writes,
+}
+
+// A line's transfer. Of a read held begins with the value, of a write with the bytes sent; place is the count of bytes given or sent.
+pub struct Transfer {
+    pub held: [u8; 64],
+    pub row: usize,
+    pub direction: Direction,
+    pub len: usize,
+    pub place: usize,
+    pub toggle: bool,
+}
+
+// What is still to be done with the values when a reply is made.
+pub enum Act {
+    // nothing: the reply stands
+    Done,
+    // write the first bytes held, row and count; the answer stands if that is accepted, and the record is then all zero
+    Commit(usize, usize),
+}
+
+pub struct Reply {
+    pub eight: [u8; 8],
+    pub next: Transfer,
+    pub act: Act,
+}

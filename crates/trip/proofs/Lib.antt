@@ -1,0 +1,3 @@
+pub mod Pressure
+pub mod Settings
+pub mod Samples

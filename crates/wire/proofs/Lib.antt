@@ -1,0 +1,7 @@
+-- Laws that other crates cite.
+pub mod SpliceLaws
+pub mod LittleLaws
+pub mod RealLaws
+pub mod Writes
+pub mod Turns
+pub mod Stores

@@ -1,0 +1,4 @@
+-- What the contracts of `wire` cite.
+pub mod Splice
+pub mod Little
+pub mod Real
