@@ -221,3 +221,49 @@ impl Board for Exported {
         number
     }
 }
+
+#[cfg(test)]
+mod tests {
+    use super::*;
+
+    fn lent() -> Lent {
+        let mut lent = Lent::new();
+        lent.lay(&[1, 2, 3], 5);
+        lent
+    }
+
+    #[test]
+    fn guards_that_hold() {
+        let mut lent = lent();
+        lent.slice()[2] = 9;
+        let mut to = [0; 3];
+        lent.take(&mut to, "values");
+        assert_eq!(to, [1, 2, 9]);
+    }
+
+    #[test]
+    #[should_panic(expected = "1 bytes before values")]
+    fn a_byte_before() {
+        let mut lent = lent();
+        let at = lent.at;
+        lent.bytes[at - 1] ^= 1;
+        lent.take(&mut [0; 3], "values");
+    }
+
+    #[test]
+    #[should_panic(expected = "0 bytes behind values")]
+    fn a_byte_behind() {
+        let mut lent = lent();
+        let end = lent.at + lent.len;
+        lent.bytes[end] ^= 1;
+        lent.take(&mut [0; 3], "values");
+    }
+
+    #[test]
+    #[should_panic(expected = "lent for reading")]
+    fn a_byte_of_what_is_lent_for_reading() {
+        let mut lent = lent();
+        lent.slice()[0] = 0;
+        lent.same(&[1, 2, 3], "message");
+    }
+}

@@ -4,10 +4,10 @@
 use board_tests::model::fault::Sound;
 use board_tests::independent::Model;
 use board_tests::subject;
-use board_tests::trace::{difference, shrink, Op, Trace};
+use board_tests::trace::{apply, difference, shrink, Op, Trace};
 use std::panic::{catch_unwind, AssertUnwindSafe};
 
-const TRACES: u64 = 12_000;
+const TRACES: u64 = 8_000;
 
 /// A difference, or a guard byte that was written.
 fn differs(trace: &Trace) -> Option<(usize, String)> {
@@ -35,6 +35,74 @@ fn on_random_traces() {
     }
     println!("{TRACES} traces, {steps} steps, {counted} messages and samples, no difference");
     assert!(counted >= 1_000_000, "only {counted} messages and samples");
+}
+
+/// The traces go deep: every kind of answer, command, trip and refusal occurs in them often.
+#[test]
+fn traces_meet_everything() {
+    use board_tests::board::code;
+    use std::collections::BTreeMap;
+    let mut met: BTreeMap<String, usize> = BTreeMap::new();
+    for seed in 1..=2000 {
+        let trace = Trace::numbered(seed);
+        let mut memory = trace.memory.clone();
+        for op in &trace.ops {
+            let before = memory.clone();
+            let (number, room) = apply(op, &mut Model(Sound), &mut memory);
+            let mut meet = |what: String| *met.entry(what).or_default() += 1;
+            match op {
+                Op::Message { line, message, .. } if number == 0 => {
+                    let answer: &[u8; 8] = room.first_chunk().unwrap();
+                    let record = &before.state[96 * *line as usize..][..70];
+                    match answer[0] {
+                        0x80 => meet(format!("abort {:08X}", code(answer))),
+                        first if message[0] >> 5 == 3 => meet(format!("read part, last {}", first & 1)),
+                        _ if message[0] >> 5 == 0 => meet(format!("write part, last {}", message[0] & 1)),
+                        first => meet(format!("answer {first:02X}")),
+                    }
+                    let ends = message[0] >> 5 == 0 && message[0] & 1 == 1 && answer[0] != 0x80;
+                    if ends && record[64..66] == [31, 0] {
+                        meet("card written".to_string());
+                    }
+                    for (name, status) in [("exception reset", 590), ("store", 593), ("load", 596)] {
+                        if before.values[status] != memory.values[status] {
+                            meet(format!("{name} status becomes {}", memory.values[status]));
+                        }
+                    }
+                    if before.block != memory.block {
+                        meet("block written".to_string());
+                    }
+                    if before.state[192..196] != [0; 4] && memory.state[192..196] == [0; 4] {
+                        meet("device reset with a trip on".to_string());
+                    }
+                }
+                Op::Message { .. } => meet(format!("message, number {number}")),
+                Op::Sample { .. } => {
+                    for side in 0..4 {
+                        let (was, is) = (before.state[192 + side] != 0, memory.state[192 + side] != 0);
+                        meet(format!("side {side} {} to {}", was as u8, is as u8));
+                    }
+                }
+                Op::Odd { .. } => meet(format!("call of odd lengths, number {number}")),
+                _ => (),
+            }
+        }
+    }
+    for (what, times) in &met {
+        println!("{times:7}  {what}");
+    }
+    let wanted = [
+        "abort 05030000", "abort 05040001", "abort 06010002", "abort 06020000", "abort 06070012", "abort 06070013", "abort 06090011",
+        "abort 06090030", "abort 06090031", "abort 06090032", "abort 08000022", "answer 41", "answer 43", "answer 4B", "answer 4F",
+        "answer 60", "block written", "card written", "device reset with a trip on", "load status becomes 0", "load status becomes 2",
+        "store status becomes 0", "store status becomes 2", "exception reset status becomes 2", "message, number 5",
+        "side 0 0 to 1", "side 0 1 to 0", "side 0 1 to 1", "side 1 0 to 1", "side 1 1 to 0", "side 2 0 to 1", "side 3 0 to 1",
+        "side 3 1 to 1", "read part, last 1", "write part, last 1", "call of odd lengths, number 1", "call of odd lengths, number 2",
+        "call of odd lengths, number 3", "call of odd lengths, number 4", "call of odd lengths, number 5",
+    ];
+    for what in wanted {
+        assert!(met.get(what).copied().unwrap_or(0) >= 20, "{what} is met too rarely");
+    }
 }
 
 /// Every first byte on every shape of record, on both lines.

@@ -171,6 +171,99 @@ fn example_k() {
     }
 }
 
+/// Bytes written between back quotes.
+fn quoted(text: &str) -> Vec<String> {
+    text.split('`').skip(1).step_by(2).map(str::to_string).collect()
+}
+
+/// docs/ABORT-CODES.md: each code's example is the board's answer, the codes stand in the order of the checks, and no code of the
+/// independent board is left out.
+#[test]
+fn abort_codes_of_the_page() {
+    use board_tests::model::code;
+    let page = include_str!("../../docs/ABORT-CODES.md");
+    let order: Vec<u32> = page
+        .lines()
+        .filter_map(|line| line.strip_prefix("| ")?.split(" |").next())
+        .filter(|cell| cell.len() == 8)
+        .filter_map(|cell| u32::from_str_radix(cell, 16).ok())
+        .collect();
+    assert_eq!(
+        order,
+        [
+            code::NO_TRANSFER,
+            code::TOGGLE,
+            code::NO_INDEX,
+            code::NO_SUBINDEX,
+            code::WRITE_ONLY,
+            code::READ_ONLY,
+            code::TOO_LONG,
+            code::TOO_SHORT,
+            code::LOCKED,
+            code::OUT_OF_RANGE,
+            code::ABOVE,
+            code::BELOW,
+        ]
+    );
+    let mut tried = Vec::new();
+    let mut heading = 0;
+    for line in page.lines() {
+        if let Some(text) = line.strip_prefix("### ") {
+            heading = u32::from_str_radix(text, 16).unwrap();
+        }
+        let Some(example) = line.strip_prefix("- **Example:**") else {
+            continue;
+        };
+        let [message, answer, ..] = &quoted(example)[..] else {
+            continue;
+        };
+        if heading == code::WRITE_ONLY {
+            continue;
+        }
+        let mut desk = Desk::new(subject());
+        match heading {
+            code::TOGGLE => drop(desk.hex(0, "40 10 20 00")),
+            code::LOCKED => assert_eq!(desk.write(1, 0x2003, 0, &[1]), Ok(())),
+            _ => (),
+        }
+        assert_eq!(desk.hex(0, message), *answer, "example of {heading:08X}");
+        let code: Vec<u8> = answer.split(' ').skip(4).map(|byte| u8::from_str_radix(byte, 16).unwrap()).collect();
+        assert_eq!(code, heading.to_le_bytes(), "example of {heading:08X}");
+        tried.push(heading);
+    }
+    order.iter().filter(|&&code| code != code::WRITE_ONLY).for_each(|code| assert!(tried.contains(code), "{code:08X} has no example"));
+}
+
+/// include/gauge.h: the numbers and sizes that the calls have.
+#[test]
+fn constants_of_the_header() {
+    let header = include_str!("../../include/gauge.h");
+    let constants: Vec<(&str, u32)> = header
+        .lines()
+        .filter_map(|line| {
+            let mut words = line.strip_prefix("#define GAUGE_")?.split_whitespace();
+            Some((words.next()?, words.next()?.trim_end_matches('u').parse().ok()?))
+        })
+        .collect();
+    let expected = [
+        ("VALUES_SIZE", 1024),
+        ("BLOCK_SIZE", 512),
+        ("STATE_SIZE", 256),
+        ("MESSAGE_SIZE", 8),
+        ("ANSWER_SIZE", 8),
+        ("IMAGE_SIZE", 10),
+        ("LINE_TOOL", 0),
+        ("LINE_SERVICE", 1),
+        ("DONE", 0),
+        ("BAD_MESSAGE", 1),
+        ("SHORT_ROOM", 2),
+        ("BAD_LINE", 3),
+        ("BAD_MEMORY", 4),
+        ("CLIENT_ABORT", 5),
+    ];
+    assert_eq!(constants, expected);
+}
+
 fn card_of(levels: [f32; 8]) -> Vec<u8> {
     let mut bits = board_tests::plain::bits_of(1, 4);
     for point in levels.chunks(4) {
