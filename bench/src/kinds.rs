@@ -153,7 +153,13 @@ pub fn kinds() -> Vec<Kind> {
             list.each("short entry written in parts", "message", &fresh, &parts);
             let mut rest = [0xFF; 4];
             rest[line.length..].fill(0);
-            list.one("expedited write of FF bytes", "message", &fresh, opening(0x23 | (4 - line.length as u8) << 2, line, rest), false);
+            list.one(
+                "expedited write of FF bytes",
+                "message",
+                &fresh,
+                opening(0x23 | (4 - line.length as u8) << 2, line, rest),
+                false,
+            );
         } else {
             list.each("long write", "message", &fresh, &write(line, &value));
         }
@@ -244,7 +250,13 @@ pub fn kinds() -> Vec<Kind> {
                 }
                 Op::Sample { pressure, valid, faults, seconds } => {
                     let p = f32::from_bits(pressure);
-                    list.add("any sample of a random trace", "sample", &memory, vec![Call::Sample(p, valid, faults, seconds)], false);
+                    list.add(
+                        "any sample of a random trace",
+                        "sample",
+                        &memory,
+                        vec![Call::Sample(p, valid, faults, seconds)],
+                        false,
+                    );
                     model::sample(p, valid, faults, seconds, &mut memory.values, &mut memory.state);
                 }
                 _ => (),

@@ -4,8 +4,14 @@
 use crate::board::Board;
 
 extern "C" {
-    fn gauge_power_up(values: *mut u8, values_len: usize, block: *mut u8, block_len: usize, state: *mut u8, state_len: usize)
-        -> u32;
+    fn gauge_power_up(
+        values: *mut u8,
+        values_len: usize,
+        block: *mut u8,
+        block_len: usize,
+        state: *mut u8,
+        state_len: usize,
+    ) -> u32;
 
     fn gauge_message(
         line: u32,

@@ -115,12 +115,8 @@ pub enum Length {
     Unknown,
 }
 
-pub const SIDES: [(u16, u8, u8, u8); 4] = [
-    (0x800E, 0x01, 0x11, 0x17),
-    (0x800E, 0x02, 0x14, 0x18),
-    (0x800F, 0x01, 0x11, 0x17),
-    (0x800F, 0x02, 0x14, 0x18),
-];
+pub const SIDES: [(u16, u8, u8, u8); 4] =
+    [(0x800E, 0x01, 0x11, 0x17), (0x800E, 0x02, 0x14, 0x18), (0x800F, 0x01, 0x11, 0x17), (0x800F, 0x02, 0x14, 0x18)];
 
 /// The plain gauge.
 #[derive(Clone)]
@@ -406,10 +402,25 @@ impl Plain {
 #[derive(Clone, Debug, PartialEq)]
 pub enum Event {
     /// A finished read, or (beyond demand 3) one that was refused.
-    Read { index: u16, sub: u8, outcome: Result<Vec<u8>, u32> },
+    Read {
+        index: u16,
+        sub: u8,
+        outcome: Result<Vec<u8>, u32>,
+    },
     /// A finished write.
-    Write { index: u16, sub: u8, length: Length, sent: Vec<u8>, outcome: Result<(), u32> },
-    Sample { pressure: f32, valid: u8, faults: u32, seconds: u32 },
+    Write {
+        index: u16,
+        sub: u8,
+        length: Length,
+        sent: Vec<u8>,
+        outcome: Result<(), u32>,
+    },
+    Sample {
+        pressure: f32,
+        valid: u8,
+        faults: u32,
+        seconds: u32,
+    },
 }
 
 #[derive(Clone)]
@@ -497,7 +508,9 @@ impl Observer {
                 let (length, sent) = match (expedited, sized) {
                     (true, true) => (Length::Is(4 - unused as u32), message[4..8 - unused].to_vec()),
                     (true, false) => (Length::Own, message[4..8].to_vec()),
-                    (false, true) => (Length::Is(u32::from_le_bytes([message[4], message[5], message[6], message[7]])), Vec::new()),
+                    (false, true) => {
+                        (Length::Is(u32::from_le_bytes([message[4], message[5], message[6], message[7]])), Vec::new())
+                    }
                     (false, false) => (Length::Unknown, Vec::new()),
                 };
                 if aborted {

@@ -8,7 +8,7 @@ impl Random {
         Random(seed)
     }
 
-    pub fn next(&mut self) -> u64 {
+    pub fn number(&mut self) -> u64 {
         self.0 = self.0.wrapping_add(0x9E37_79B9_7F4A_7C15);
         let mut z = self.0;
         z = (z ^ (z >> 30)).wrapping_mul(0xBF58_476D_1CE4_E5B9);
@@ -18,7 +18,7 @@ impl Random {
 
     /// 0 to n - 1
     pub fn below(&mut self, n: usize) -> usize {
-        ((self.next() >> 32) * n as u64 >> 32) as usize
+        (((self.number() >> 32) * n as u64) >> 32) as usize
     }
 
     /// true in n cases of a thousand
@@ -27,11 +27,11 @@ impl Random {
     }
 
     pub fn byte(&mut self) -> u8 {
-        (self.next() >> 56) as u8
+        (self.number() >> 56) as u8
     }
 
     pub fn word(&mut self) -> u32 {
-        (self.next() >> 32) as u32
+        (self.number() >> 32) as u32
     }
 
     pub fn pick<T: Copy>(&mut self, from: &[T]) -> T {

@@ -19,13 +19,34 @@ pub enum Part {
 #[derive(Clone, Debug)]
 pub enum Op {
     PowerUp,
-    Message { line: u32, message: [u8; 8], room: usize },
-    Sample { pressure: u32, valid: u8, faults: u32, seconds: u32 },
-    Image { room: usize },
+    Message {
+        line: u32,
+        message: [u8; 8],
+        room: usize,
+    },
+    Sample {
+        pressure: u32,
+        valid: u8,
+        faults: u32,
+        seconds: u32,
+    },
+    Image {
+        room: usize,
+    },
     /// Somebody else writes into the lent memory.
-    Lend { part: Part, at: usize, bytes: Vec<u8> },
+    Lend {
+        part: Part,
+        at: usize,
+        bytes: Vec<u8>,
+    },
     /// A call with lengths that may be wrong; `sizes` are those of values, block and state.
-    Odd { call: u8, line: u32, message: Vec<u8>, sizes: [usize; 3], room: usize },
+    Odd {
+        call: u8,
+        line: u32,
+        message: Vec<u8>,
+        sizes: [usize; 3],
+        room: usize,
+    },
 }
 
 impl Op {
@@ -90,7 +111,8 @@ pub fn apply(op: &Op, board: &mut dyn Board, memory: &mut Memory) -> (u32, Vec<u
                 bytes.resize(size, 0x3C);
                 bytes
             };
-            let (mut values, mut block, mut state) = (sized(&m.values, sizes[0]), sized(&m.block, sizes[1]), sized(&m.state, sizes[2]));
+            let (mut values, mut block, mut state) =
+                (sized(&m.values, sizes[0]), sized(&m.block, sizes[1]), sized(&m.state, sizes[2]));
             let mut answer = room(*size);
             let number = match call {
                 0 => board.power_up(&mut values, &mut block, &mut state),
@@ -121,9 +143,11 @@ pub fn difference(trace: &Trace, a: &mut dyn Board, b: &mut dyn Board) -> Option
         if room_a != room_b {
             return Some((n, format!("room {} against {}", hex(&room_a), hex(&room_b))));
         }
-        for (name, x, y) in
-            [("values", &mine.values, &theirs.values), ("block", &mine.block, &theirs.block), ("state", &mine.state, &theirs.state)]
-        {
+        for (name, x, y) in [
+            ("values", &mine.values, &theirs.values),
+            ("block", &mine.block, &theirs.block),
+            ("state", &mine.state, &theirs.state),
+        ] {
             if x != y {
                 let at = (0..x.len()).find(|&i| x[i] != y[i]).unwrap();
                 return Some((n, format!("{name} byte {at}: {:02X} against {:02X}", x[at], y[at])));
@@ -284,11 +308,11 @@ impl Maker {
             _ => {
                 let (low, high) = (line.minimum(), line.maximum());
                 let span = high.wrapping_sub(low).wrapping_add(1);
-                let inside = if span == 0 { self.r.next() } else { low.wrapping_add(self.r.next() % span) };
+                let inside = if span == 0 { self.r.number() } else { low.wrapping_add(self.r.number() % span) };
                 let mut near = vec![low, high, inside, inside, inside, low, high];
                 near.extend([low.wrapping_sub(1), high.wrapping_add(1)]);
                 if self.r.chance(30) {
-                    near = vec![self.r.next()];
+                    near = vec![self.r.number()];
                 }
                 let value = self.r.pick(&near);
                 value.to_le_bytes()[..width as usize / 8].to_vec()
@@ -709,7 +733,11 @@ impl Maker {
                     return Vec::new();
                 }
                 for _ in 0..20 {
-                    let value = if line.kind == "REAL" && n >= bad { self.r.pick(&SPECIAL).to_le_bytes().to_vec() } else { self.value(line) };
+                    let value = if line.kind == "REAL" && n >= bad {
+                        self.r.pick(&SPECIAL).to_le_bytes().to_vec()
+                    } else {
+                        self.value(line)
+                    };
                     if n >= bad || plain::judge(line, &value).is_ok() {
                         return value;
                     }
@@ -717,7 +745,8 @@ impl Maker {
                 line.default()
             })
             .collect();
-        let place = |line: &Line| values[table().iter().position(|l| l.index == line.index && l.sub == line.sub).unwrap()].clone();
+        let place =
+            |line: &Line| values[table().iter().position(|l| l.index == line.index && l.sub == line.sub).unwrap()].clone();
         let mut block = Plain::pack(table(), place);
         if kind == 3 {
             let at = match self.r.below(6) {
@@ -837,8 +866,7 @@ impl Trace {
                 _ => r.pick(&NICE).to_bits(),
             };
         }
-        let mut maker =
-            Maker { r, style, queues: Default::default(), reals, ops: Vec::new(), seconds: 0 };
+        let mut maker = Maker { r, style, queues: Default::default(), reals, ops: Vec::new(), seconds: 0 };
         let memory = maker.memory();
         let length = maker.r.pick(&[20, 60, 150, 300, 500]);
         while maker.ops.len() < length {

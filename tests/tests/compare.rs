@@ -1,8 +1,8 @@
 //! The exported calls against the independent board, on random traces with fixed seeds: every returned number, every answer,
 //! values, block and state, byte for byte.
 
-use board_tests::model::fault::Sound;
 use board_tests::independent::Model;
+use board_tests::model::fault::Sound;
 use board_tests::subject;
 use board_tests::trace::{apply, difference, shrink, Op, Trace};
 use std::panic::{catch_unwind, AssertUnwindSafe};
@@ -92,13 +92,46 @@ fn traces_meet_everything() {
         println!("{times:7}  {what}");
     }
     let wanted = [
-        "abort 05030000", "abort 05040001", "abort 06010002", "abort 06020000", "abort 06070012", "abort 06070013", "abort 06090011",
-        "abort 06090030", "abort 06090031", "abort 06090032", "abort 08000022", "answer 41", "answer 43", "answer 4B", "answer 4F",
-        "answer 60", "block written", "card written", "device reset with a trip on", "load status becomes 0", "load status becomes 2",
-        "store status becomes 0", "store status becomes 2", "exception reset status becomes 2", "message, number 5",
-        "side 0 0 to 1", "side 0 1 to 0", "side 0 1 to 1", "side 1 0 to 1", "side 1 1 to 0", "side 2 0 to 1", "side 3 0 to 1",
-        "side 3 1 to 1", "read part, last 1", "write part, last 1", "call of odd lengths, number 1", "call of odd lengths, number 2",
-        "call of odd lengths, number 3", "call of odd lengths, number 4", "call of odd lengths, number 5",
+        "abort 05030000",
+        "abort 05040001",
+        "abort 06010002",
+        "abort 06020000",
+        "abort 06070012",
+        "abort 06070013",
+        "abort 06090011",
+        "abort 06090030",
+        "abort 06090031",
+        "abort 06090032",
+        "abort 08000022",
+        "answer 41",
+        "answer 43",
+        "answer 4B",
+        "answer 4F",
+        "answer 60",
+        "block written",
+        "card written",
+        "device reset with a trip on",
+        "load status becomes 0",
+        "load status becomes 2",
+        "store status becomes 0",
+        "store status becomes 2",
+        "exception reset status becomes 2",
+        "message, number 5",
+        "side 0 0 to 1",
+        "side 0 1 to 0",
+        "side 0 1 to 1",
+        "side 1 0 to 1",
+        "side 1 1 to 0",
+        "side 2 0 to 1",
+        "side 3 0 to 1",
+        "side 3 1 to 1",
+        "read part, last 1",
+        "write part, last 1",
+        "call of odd lengths, number 1",
+        "call of odd lengths, number 2",
+        "call of odd lengths, number 3",
+        "call of odd lengths, number 4",
+        "call of odd lengths, number 5",
     ];
     for what in wanted {
         assert!(met.get(what).copied().unwrap_or(0) >= 20, "{what} is met too rarely");
@@ -113,7 +146,10 @@ fn every_first_byte_on_every_record() {
     for first in 0..=255u8 {
         for direction in 0..4u8 {
             for (n, row) in rows.iter().enumerate() {
-                if !matches!((row.index, row.sub), (0x2001, 0) | (0x2003, 0) | (0x2010, 0) | (0x1000, 0) | (0xFBF0, 1) | (0xFBF4, 1)) {
+                if !matches!(
+                    (row.index, row.sub),
+                    (0x2001, 0) | (0x2003, 0) | (0x2010, 0) | (0x1000, 0) | (0xFBF0, 1) | (0xFBF4, 1)
+                ) {
                     continue;
                 }
                 for left in [0, 1, 6, 7, 8, row.length] {

@@ -2,8 +2,8 @@
 //! at a time.
 
 use board_tests::board::{Board, Memory};
-use board_tests::model::fault::{Broken, Mutant, Sound, MUTANTS};
 use board_tests::independent::Model;
+use board_tests::model::fault::{Broken, Mutant, Sound, MUTANTS};
 use board_tests::plain::{follow, lines, Event, Observer, Plain};
 use board_tests::random::Random;
 use board_tests::subject;
@@ -216,7 +216,9 @@ fn reads_end_after_their_count_of_parts() {
                     .iter()
                     .filter_map(|op| match op {
                         // no opening of a write to the device reset
-                        Op::Message { message, .. } if !(message[0] >> 5 == 1 && message[1..4] == [0xF0, 0xFB, 1]) => Some(*message),
+                        Op::Message { message, .. } if !(message[0] >> 5 == 1 && message[1..4] == [0xF0, 0xFB, 1]) => {
+                            Some(*message)
+                        }
                         _ => None,
                     })
                     .collect();

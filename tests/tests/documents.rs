@@ -107,7 +107,10 @@ fn examples_a_to_i() {
             ],
         );
         // G
-        dialogue(line, &[("40 10 20 00", "41 10 20 00 21"), ("70", "80 10 20 00 00 00 03 05"), ("60", "80 00 00 00 01 00 04 05")]);
+        dialogue(
+            line,
+            &[("40 10 20 00", "41 10 20 00 21"), ("70", "80 10 20 00 00 00 03 05"), ("60", "80 00 00 00 01 00 04 05")],
+        );
         // H
         dialogue(
             line,
@@ -231,7 +234,10 @@ fn abort_codes_of_the_page() {
         assert_eq!(code, heading.to_le_bytes(), "example of {heading:08X}");
         tried.push(heading);
     }
-    order.iter().filter(|&&code| code != code::WRITE_ONLY).for_each(|code| assert!(tried.contains(code), "{code:08X} has no example"));
+    order
+        .iter()
+        .filter(|&&code| code != code::WRITE_ONLY)
+        .for_each(|code| assert!(tried.contains(code), "{code:08X} has no example"));
 }
 
 /// include/gauge.h: the numbers and sizes that the calls have.

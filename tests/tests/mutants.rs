@@ -1,8 +1,8 @@
 //! The comparison can fail: every wrong variant of the independent board is found by it, on the traces that the exported calls
 //! are compared on.
 
-use board_tests::model::fault::{Broken, Sound, MUTANTS};
 use board_tests::independent::Model;
+use board_tests::model::fault::{Broken, Sound, MUTANTS};
 use board_tests::trace::{difference, shrink, Trace};
 
 /// The comparison's first traces; a variant that these do not show is not found.

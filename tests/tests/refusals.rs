@@ -87,7 +87,8 @@ fn abort_is_no_refusal() {
             let before = memory.clone();
             let mut answer = [ROOM; 12];
             let m = &mut memory;
-            let number = subject().message(line, &[first, 1, 2, 3, 4, 5, 6, 7], &mut m.values, &mut m.block, &mut m.state, &mut answer);
+            let number =
+                subject().message(line, &[first, 1, 2, 3, 4, 5, 6, 7], &mut m.values, &mut m.block, &mut m.state, &mut answer);
             assert_eq!(number, 5);
             assert_eq!(answer, [ROOM; 12]);
             assert!(memory.values == before.values && memory.block == before.block);
@@ -106,7 +107,8 @@ fn power_up_sample_and_image() {
     for values in [0, 1023, 1024, 1025] {
         for state in [0, 255, 256, 257] {
             for block in [0, 511, 512, 513] {
-                let (mut v, mut b, mut s) = (sized(&memory.values, values), sized(&memory.block, block), sized(&memory.state, state));
+                let (mut v, mut b, mut s) =
+                    (sized(&memory.values, values), sized(&memory.block, block), sized(&memory.state, state));
                 let good = (values, block, state) == (1024, 512, 256);
                 assert_eq!(subject().power_up(&mut v, &mut b, &mut s), if good { 0 } else { 4 });
                 assert!(b == sized(&memory.block, block), "power-up wrote into the block");
@@ -124,7 +126,16 @@ fn power_up_sample_and_image() {
         for room in [0, 1, 9, 10, 11, 40] {
             let mut image = vec![ROOM; room];
             let number = subject().image(&sized(&memory.values, values), &mut image);
-            assert_eq!(number, if values != 1024 { 4 } else if room < 10 { 2 } else { 0 });
+            assert_eq!(
+                number,
+                if values != 1024 {
+                    4
+                } else if room < 10 {
+                    2
+                } else {
+                    0
+                }
+            );
             let written = if number == 0 { 10 } else { 0 };
             assert!(image[written..].iter().all(|&b| b == ROOM), "number {number} wrote behind the image");
         }
@@ -134,17 +145,17 @@ fn power_up_sample_and_image() {
 #[test]
 fn an_abort_answer_leaves_values_and_block() {
     let messages = [
-        [0x60, 0, 0, 0, 0, 0, 0, 0],          // wrong toggle
-        [0x00, 1, 2, 3, 4, 5, 6, 7],          // part of the other direction
-        [0xE0, 0, 0, 0, 0, 0, 0, 0],          // unknown
-        [0x40, 0x04, 0x20, 0, 0, 0, 0, 0],    // index absent
-        [0x40, 0x03, 0x20, 1, 0, 0, 0, 0],    // subindex absent
-        [0x23, 0x00, 0x10, 0, 1, 2, 3, 4],    // read-only
-        [0x2B, 0x03, 0x20, 0, 1, 0, 0, 0],    // too long
-        [0x2F, 0x11, 0x80, 0, 1, 0, 0, 0],    // index absent
-        [0x2F, 0x0E, 0x80, 0x11, 1, 0, 0, 0], // too short
-        [0x2F, 0x03, 0x20, 0, 2, 0, 0, 0],    // above
-        [0x2F, 0x05, 0x80, 0x11, 0, 0, 0, 0], // below
+        [0x60, 0, 0, 0, 0, 0, 0, 0],                // wrong toggle
+        [0x00, 1, 2, 3, 4, 5, 6, 7],                // part of the other direction
+        [0xE0, 0, 0, 0, 0, 0, 0, 0],                // unknown
+        [0x40, 0x04, 0x20, 0, 0, 0, 0, 0],          // index absent
+        [0x40, 0x03, 0x20, 1, 0, 0, 0, 0],          // subindex absent
+        [0x23, 0x00, 0x10, 0, 1, 2, 3, 4],          // read-only
+        [0x2B, 0x03, 0x20, 0, 1, 0, 0, 0],          // too long
+        [0x2F, 0x11, 0x80, 0, 1, 0, 0, 0],          // index absent
+        [0x2F, 0x0E, 0x80, 0x11, 1, 0, 0, 0],       // too short
+        [0x2F, 0x03, 0x20, 0, 2, 0, 0, 0],          // above
+        [0x2F, 0x05, 0x80, 0x11, 0, 0, 0, 0],       // below
         [0x23, 0x0E, 0x80, 0x11, 0, 0, 0xC0, 0x7F], // not a number
     ];
     for message in messages {

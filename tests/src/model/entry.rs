@@ -83,7 +83,14 @@ fn judge<F: Fault>(f: F, row: &Row, bytes: &[u8]) -> Result<(), u32> {
 }
 
 /// Lock and limits, then the write; `bytes` has the row's length.
-pub fn write<F: Fault>(f: F, row: &Row, bytes: &[u8], values: &mut Values, block: &mut Block, unlocked: bool) -> Result<After, u32> {
+pub fn write<F: Fault>(
+    f: F,
+    row: &Row,
+    bytes: &[u8],
+    values: &mut Values,
+    block: &mut Block,
+    unlocked: bool,
+) -> Result<After, u32> {
     if f.on(LimitsBeforeLock) {
         judge(f, row, bytes)?;
     }

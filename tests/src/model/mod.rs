@@ -66,11 +66,9 @@ pub fn message_with<F: Fault>(
     if f.on(LineBeforeMemory) && line > 1 {
         return BAD_LINE;
     }
-    let (Ok(values), Ok(block), Ok(state)) = (
-        <&mut Values>::try_from(values),
-        <&mut Block>::try_from(block),
-        <&mut State>::try_from(state),
-    ) else {
+    let (Ok(values), Ok(block), Ok(state)) =
+        (<&mut Values>::try_from(values), <&mut Block>::try_from(block), <&mut State>::try_from(state))
+    else {
         return BAD_MEMORY;
     };
     if f.on(RoomBeforeLine) && answer.len() < 8 {

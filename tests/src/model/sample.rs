@@ -75,11 +75,7 @@ pub fn sample<F: Fault>(f: F, pressure: f32, valid: u8, faults: u32, seconds: u3
     values[VALID] = good as u8;
     for n in 0..4 {
         let was = state[TRIPS + n];
-        let on = if good {
-            side(f, values, n, pressure, was != 0)
-        } else {
-            f.on(InvalidKeepsTrips) && was != 0
-        };
+        let on = if good { side(f, values, n, pressure, was != 0) } else { f.on(InvalidKeepsTrips) && was != 0 };
         state[TRIPS + n] = if f.on(TripByteKept) && on && was != 0 { was } else { on as u8 };
         values[TRIP_STATUS[n]] = on as u8;
         all |= (on as u32) << n;

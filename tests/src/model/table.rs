@@ -186,8 +186,18 @@ pub const COUNT: usize = count_rows();
 pub static ROWS: [Row; COUNT] = ALL;
 
 const ALL: [Row; COUNT] = {
-    let blank =
-        Row { key: 0, kind: Kind::Bool, readable: false, writable: false, nv: false, len: 0, place: 0, min: 0, max: 0, default: 0 };
+    let blank = Row {
+        key: 0,
+        kind: Kind::Bool,
+        readable: false,
+        writable: false,
+        nv: false,
+        len: 0,
+        place: 0,
+        min: 0,
+        max: 0,
+        default: 0,
+    };
     let mut rows = [blank; COUNT];
     let (mut at, mut n) = (0, 0);
     while at < PAGE.len() {

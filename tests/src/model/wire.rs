@@ -62,7 +62,8 @@ struct Transfer {
 /// The record as an open transfer of a direction.
 #[inline]
 fn open<F: Fault>(f: F, record: &Record, direction: u8) -> Option<Transfer> {
-    let lent = if f.on(RecordDirectionFree) && record[DIRECTION] != READ && record[DIRECTION] != 0 { WRITE } else { record[DIRECTION] };
+    let lent =
+        if f.on(RecordDirectionFree) && record[DIRECTION] != READ && record[DIRECTION] != 0 { WRITE } else { record[DIRECTION] };
     if lent != direction {
         return None;
     }
@@ -123,7 +124,7 @@ pub fn step<F: Fault>(f: F, message: &[u8; 8], record: &mut Record, values: &mut
         _ => Err(NO_TRANSFER),
     };
     match replied {
-        Ok((answer, _)) if f.on(SameEightBytes) => Reply::Answer([0x60, answer[1] & 0, 0, 0, 0, 0, 0, 0]),
+        Ok(_) if f.on(SameEightBytes) => Reply::Answer([0x60, 0, 0, 0, 0, 0, 0, 0]),
         Ok((answer, After::Nothing)) => Reply::Answer(answer),
         Ok((answer, After::Reset)) => Reply::Reset(answer),
         Err(mut abort) => {
@@ -143,7 +144,11 @@ pub fn step<F: Fault>(f: F, message: &[u8; 8], record: &mut Record, values: &mut
             if f.on(ToggleWithoutIndex) && abort.code == code::TOGGLE {
                 abort.key = 0;
             }
-            if f.on(ToggleBeforeMatch) && abort.code == code::NO_TRANSFER && (specifier == 0 || specifier == 3) && message[0] & 0x10 != 0 {
+            if f.on(ToggleBeforeMatch)
+                && abort.code == code::NO_TRANSFER
+                && (specifier == 0 || specifier == 3)
+                && message[0] & 0x10 != 0
+            {
                 abort.code = code::TOGGLE;
             }
             if f.on(NoSubindexIsNoIndex) && abort.code == code::NO_SUBINDEX {
