@@ -1,0 +1,10 @@
+-- Laws that other crates cite.
+pub mod Entries
+pub mod Kept
+pub mod Walking
+pub mod Turns
+pub mod Zeros
+pub mod Whole
+pub mod RoundTrips
+pub mod Tables
+pub mod Theorems

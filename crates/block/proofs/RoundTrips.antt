@@ -1,0 +1,298 @@
+-- Loaded after stored, and stored after loaded, for any rows that keep the rule. Assumes nothing.
+use mathlib.Core.Bool.{true, or-true, _&&_}
+use mathlib.Core.List.{List, [], _∷_, _++_, append-assoc}
+use mathlib.Core.Logic.{⊎-elim}
+use mathlib.Core.Path.{_≡_, refl, sym, ap, _∙_}
+use Prim.Native.Nat.{ℕ, zero, suc, _+_, _-_, _≤_, _<_}
+use native.Mathlib.Nat.{not-suc-le-zero, le-of-suc-le-suc}
+use native.Mathlib.Omega.{arith}
+use lib.Dec.{leb, eqb}
+use lib.ListN.{length, take, drop, getD, replicate, length-append, length-take, length-drop, take-append-drop}
+use lib.Seq.{take-at, drop-at, drop-drop, take-add, getD-take, getD-drop, length-take-le}
+use borrow.Author.Tests.{le-leb, eqb-true, eq-eqb}
+use Rattle.bits.proofs.Numbers.{length-msb, num-msb, msb-num, small-take, small-drop}
+use Rattle.bits.proofs.Parts.{field-mid}
+use Rattle.bits.specs.Bits.{msb, bits, num, field, Small, Bytes}
+use Rattle.block.proofs.Entries.{length-entry, length-bytes, entry-back, back-entry, number-back, bits-number, number-or-string, within-string}
+use Rattle.block.proofs.Kept.{Kept}
+use Rattle.block.proofs.Walking.{and-true, fits, Keeps, part-long, length-saved}
+use Rattle.block.proofs.Zeros.{zeros, zeros-are}
+use Rattle.block.specs.Block.{LAYOUT, row-width, part, entry-bits, entry-bytes, within, widths, saved, load-rows, values-good, rows-good, all-zero, block-of, good}
+use Rattle.table.proofs.Walks.{lt-or-ge}
+use Rattle.table.specs.Row.{Row, no-row}
+use Rattle.wire.proofs.SpliceLaws.{length-splice, part-same, part-apart, splice-own}
+use Rattle.wire.specs.Little.{fromLittle, number}
+use Rattle.wire.specs.Splice.{splice, apart}
+
+-- ---- an entry that no row of a list touches
+
+unfoldable pub Clear : List Row → ℕ → ℕ → Type 0
+Clear [] q m = Unit
+Clear (r ∷ rs) q m = (apart (r .place) (r .len) q m ≡ true) × Clear rs q m
+
+-- places rise, so that no entry is touched by a later one
+unfoldable pub Rising : ℕ → List Row → Type 0
+Rising from [] = Unit
+Rising from (r ∷ rs) = (from ≤ r .place) × Rising (r .place + r .len) rs
+
+pub rising-below : (rs : List Row) (m n : ℕ) → m ≤ n → Rising n rs → Rising m rs
+unfolding Rising
+rising-below [] m n h t = tt
+rising-below (r ∷ rs) m n h t = let g : n ≤ r .place = t .0 in (omega arith, t .1)
+
+rising-clear : (rs : List Row) (q m : ℕ) → Rising (q + m) rs → Clear rs q m
+unfolding Rising Clear
+rising-clear [] q m t = tt
+rising-clear (r ∷ rs) q m t =
+    let g : q + m ≤ r .place = t .0 in
+    (rw (le-leb (q + m) (r .place) g) (or-true (leb (r .place + r .len) q)), rising-clear rs q m (rising-below rs (q + m) (r .place + r .len) (omega arith) (t .1)))
+
+-- ---- one entry
+
+bytes-part : (values : List ℕ) (r : Row) → Bytes values → Bytes (part values r)
+bytes-part values r h k =
+    ⊎-elim
+    (λ l. rw (getD-take (r .len) (drop (r .place) values) k 0 l, getD-drop (r .place) values k 0) (h (r .place + k)))
+    (λ g. rw (getD-past (part values r) k (omega (arith, length-take (r .len) (drop (r .place) values)))) (omega arith))
+    (lt-or-ge k (r .len))
+  where
+    getD-past : (l : List ℕ) (i : ℕ) → length l ≤ i → getD l i 0 ≡ 0
+    getD-past [] i g = refl
+    getD-past (x ∷ l) zero g = absurd (not-suc-le-zero g)
+    getD-past (x ∷ l) (suc i) g = getD-past l i (le-of-suc-le-suc g)
+
+room-of : (values : List ℕ) (r : Row) → Kept r → length values ≡ 1024 → leb (r .place) (length values) ≡ true
+room-of values r k n = le-leb (r .place) (length values) (omega (arith, k .sized .inside))
+
+length-one : (values : List ℕ) (r : Row) (bs : List ℕ) → Kept r → length values ≡ 1024 → length (splice values (r .place) (entry-bytes (r .kind) (r .len) bs)) ≡ 1024
+length-one values r bs k n =
+    length-splice values (r .place) (entry-bytes (r .kind) (r .len) bs) (omega (arith, length-bytes (r .kind) (r .len) bs, k .sized .inside)) ∙ n
+
+-- loading leaves what no entry touches
+pub load-beside : (bs : List ℕ) (at : ℕ) (rs : List Row) (values : List ℕ) (q m : ℕ) → Keeps rs → Clear rs q m → length values ≡ 1024
+    → take m (drop q (load-rows bs at rs values)) ≡ take m (drop q values)
+unfolding load-rows Keeps Clear
+load-beside bs at [] values q m k t n = refl
+load-beside bs at (r ∷ rs) values q m k t n =
+    let own : List ℕ = entry-bytes (r .kind) (r .len) (drop at bs) in
+    load-beside bs (at + row-width r) rs (splice values (r .place) own) q m (k .1) (t .1) (length-one values r (drop at bs) (k .0) n)
+    ∙ part-apart values (r .place) own (room-of values r (k .0) n) q m (rw (length-bytes (r .kind) (r .len) (drop at bs)) (t .0))
+
+pub length-load : (bs : List ℕ) (at : ℕ) (rs : List Row) (values : List ℕ) → Keeps rs → length values ≡ 1024 → length (load-rows bs at rs values) ≡ 1024
+unfolding load-rows Keeps
+length-load bs at [] values k n = n
+length-load bs at (r ∷ rs) values k n =
+    length-load bs (at + row-width r) rs (splice values (r .place) (entry-bytes (r .kind) (r .len) (drop at bs))) (k .1) (length-one values r (drop at bs) (k .0) n)
+
+-- ---- the block begins with 8 bits
+
+head : ℕ → List ℕ
+head model = msb 4 LAYOUT ++ msb 4 model
+
+length-head : (model : ℕ) → length (head model) ≡ 8
+unfolding head
+length-head model = omega (arith, length-append (msb 4 LAYOUT) (msb 4 model), length-msb 4 LAYOUT, length-msb 4 model)
+
+block-parts : (model : ℕ) (values : List ℕ) (rs : List Row) → block-of model values rs ≡ head model ++ (saved values rs ++ replicate (4096 - (8 + widths rs)) 0)
+unfolding block-of head
+block-parts model values rs = sym (append-assoc (msb 4 LAYOUT) (msb 4 model) (saved values rs ++ replicate (4096 - (8 + widths rs)) 0))
+
+-- ---- loaded after stored: into any values, every entry comes back
+
+-- the values with the entries of others
+unfoldable pub copy-rows : List ℕ → List Row → List ℕ → List ℕ
+copy-rows others [] values = values
+copy-rows others (r ∷ rs) values = copy-rows others rs (splice values (r .place) (part others r))
+
+pub copy-beside : (others : List ℕ) (rs : List Row) (values : List ℕ) (q m : ℕ) → Keeps rs → Clear rs q m → length others ≡ 1024 → length values ≡ 1024
+    → take m (drop q (copy-rows others rs values)) ≡ take m (drop q values)
+unfolding copy-rows Keeps Clear
+copy-beside others [] values q m k t o n = refl
+copy-beside others (r ∷ rs) values q m k t o n =
+    let own : List ℕ = part others r in
+    let lo : length own ≡ r .len = part-long others r (k .0) o in
+    copy-beside others rs (splice values (r .place) own) q m (k .1) (t .1) o (length-splice values (r .place) own (omega (arith, k .0 .sized .inside)) ∙ n)
+    ∙ part-apart values (r .place) own (room-of values r (k .0) n) q m (rw lo (t .0))
+
+-- each entry is that of the others
+pub copied-entry : (others : List ℕ) (rs : List Row) (from : ℕ) (values : List ℕ) → Keeps rs → Rising from rs → length others ≡ 1024 → length values ≡ 1024
+    → (j : ℕ) → j < length rs → part (copy-rows others rs values) (getD rs j no-row) ≡ part others (getD rs j no-row)
+unfolding copy-rows Keeps Rising
+copied-entry others [] from values k t o n j h = absurd (not-suc-le-zero h)
+copied-entry others (r ∷ rs) from values k t o n zero h =
+    let own : List ℕ = part others r in
+    let lo : length own ≡ r .len = part-long others r (k .0) o in
+    copy-beside others rs (splice values (r .place) own) (r .place) (r .len) (k .1) (rising-clear rs (r .place) (r .len) (t .1)) o (length-splice values (r .place) own (omega (arith, k .0 .sized .inside)) ∙ n)
+    ∙ part-same values (r .place) own (room-of values r (k .0) n) (r .len) lo
+copied-entry others (r ∷ rs) from values k t o n (suc j) h =
+    let own : List ℕ = part others r in
+    let lo : length own ≡ r .len = part-long others r (k .0) o in
+    copied-entry others rs (r .place + r .len) (splice values (r .place) own) (k .1) (t .1) o (length-splice values (r .place) own (omega (arith, k .0 .sized .inside)) ∙ n) j (le-of-suc-le-suc h)
+
+-- and one's own are left
+pub copy-own : (values : List ℕ) (rs : List Row) → Keeps rs → length values ≡ 1024 → copy-rows values rs values ≡ values
+unfolding copy-rows Keeps
+copy-own values [] k n = refl
+copy-own values (r ∷ rs) k n =
+    ap (copy-rows values rs) (splice-own values (r .place) (r .len) (omega (arith, k .0 .sized .inside))) ∙ copy-own values rs (k .1) n
+
+module _ (others : List ℕ) (hb : Bytes others) (hn : length others ≡ 1024) where
+  rows-back : (rs : List Row) → Keeps rs → values-good others rs ≡ true → (front rest : List ℕ) (at : ℕ) → length front ≡ at → (values : List ℕ)
+      → load-rows (front ++ (saved others rs ++ rest)) at rs values ≡ copy-rows others rs values
+  unfolding load-rows copy-rows saved values-good Keeps
+  rows-back [] k g front rest at e values = refl
+  rows-back (r ∷ rs) k g front rest at e values =
+      let own : List ℕ = entry-bits (r .kind) (r .len) (part others r) in
+      let gg = and-true (within r (number others (r .place) (r .len))) (values-good others rs) g in
+      let lp : length (part others r) ≡ r .len = part-long others r (k .0) hn in
+      let d : drop at (front ++ ((own ++ saved others rs) ++ rest)) ≡ own ++ (saved others rs ++ rest) =
+      drop-at front ((own ++ saved others rs) ++ rest) at e ∙ append-assoc own (saved others rs) rest in
+      let b : entry-bytes (r .kind) (r .len) (own ++ (saved others rs ++ rest)) ≡ part others r =
+      entry-back (r .kind) (r .len) (part others r) (saved others rs ++ rest) (bytes-part others r hb) lp (λ h. fits others r (k .0) hb (gg .0)) in
+      let n : length (front ++ own) ≡ at + row-width r = omega (arith, length-append front own, length-entry (r .kind) (r .len) (part others r) lp) in
+      let f : front ++ ((own ++ saved others rs) ++ rest) ≡ (front ++ own) ++ (saved others rs ++ rest) =
+      ap (λ (l : List ℕ). front ++ l) (append-assoc own (saved others rs) rest) ∙ sym (append-assoc front own (saved others rs ++ rest)) in
+      rw (d, b, f) (rows-back rs (k .1) (gg .1) (front ++ own) rest (at + row-width r) n (splice values (r .place) (part others r)))
+
+  rows-fine : (rs : List Row) → Keeps rs → values-good others rs ≡ true → (front rest : List ℕ) (at : ℕ) → length front ≡ at
+      → rows-good (front ++ (saved others rs ++ rest)) at rs ≡ true
+  unfolding rows-good saved values-good Keeps number
+  rows-fine [] k g front rest at e = refl
+  rows-fine (r ∷ rs) k g front rest at e =
+      let own : List ℕ = entry-bits (r .kind) (r .len) (part others r) in
+      let tail : List ℕ = saved others rs ++ rest in
+      let gg = and-true (within r (number others (r .place) (r .len))) (values-good others rs) g in
+      let lp : length (part others r) ≡ r .len = part-long others r (k .0) hn in
+      let lo : length own ≡ row-width r = length-entry (r .kind) (r .len) (part others r) lp in
+      let f : front ++ ((own ++ saved others rs) ++ rest) ≡ front ++ (own ++ tail) = ap (λ (l : List ℕ). front ++ l) (append-assoc own (saved others rs) rest) in
+      let w : within r (field (front ++ (own ++ tail)) at (row-width r)) ≡ true =
+      number-or-string (r .kind)
+      (λ h.
+      ap (within r) (field-mid front own tail at (row-width r) e lo ∙ ap num (bits-number (r .kind) (r .len) (part others r) h) ∙ num-msb (row-width r) (fromLittle (part others r)) (fits others r (k .0) hb (gg .0)))
+      ∙ gg .0)
+      (λ h. sym (within-string r _ h)) in
+      let n : length (front ++ own) ≡ at + row-width r = omega (arith, length-append front own) in
+      rw (f, w) (rw (sym (append-assoc front own tail)) (rows-fine rs (k .1) (gg .1) (front ++ own) rest (at + row-width r) n))
+
+  module _ (model : ℕ) (rs : List Row) (k : Keeps rs) (g : values-good others rs ≡ true) where
+    -- a stored block loads whole: every NV byte is that of the values stored, every other is left
+    pub load-stored : (values : List ℕ) → load-rows (block-of model others rs) 8 rs values ≡ copy-rows others rs values
+    load-stored values =
+        ap (λ (b : List ℕ). load-rows b 8 rs values) (block-parts model others rs) ∙ rows-back rs k g (head model) _ 8 (length-head model) values
+
+    -- and is not faulty
+    pub stored-good : model < 16 → good model (block-of model others rs) rs ≡ true
+    unfolding good block-of
+    stored-good h =
+        let z : List ℕ = replicate (4096 - (8 + widths rs)) 0 in
+        let s : List ℕ = saved others rs in
+        let b : List ℕ = msb 4 LAYOUT ++ (msb 4 model ++ (s ++ z)) in
+        let lay : field b 0 4 ≡ LAYOUT = field-mid [] (msb 4 LAYOUT) (msb 4 model ++ (s ++ z)) 0 4 refl (length-msb 4 LAYOUT) ∙ num-msb 4 LAYOUT (omega arith) in
+        let mdl : field b 4 4 ≡ model = field-mid (msb 4 LAYOUT) (msb 4 model) (s ++ z) 4 4 (length-msb 4 LAYOUT) (length-msb 4 model) ∙ num-msb 4 model h in
+        let row : rows-good b 8 rs ≡ true = ap (λ (x : List ℕ). rows-good x 8 rs) (block-parts model others rs) ∙ rows-fine rs k g (head model) z 8 (length-head model) in
+        let d : drop (8 + widths rs) b ≡ z =
+        ap (drop (8 + widths rs)) (block-parts model others rs ∙ sym (append-assoc (head model) s z))
+        ∙ drop-at (head model ++ s) z (8 + widths rs) (omega (arith, length-append (head model) s, length-head model, length-saved others rs k hn)) in
+        rw (lay, mdl, row, d, eq-eqb model model refl) (zeros (4096 - (8 + widths rs)))
+
+-- ---- each entry at its bit place
+
+row-saved : (values : List ℕ) (hn : length values ≡ 1024) (rs : List Row) → Keeps rs → (front rest : List ℕ) (j : ℕ) → j < length rs
+    → take (row-width (getD rs j no-row)) (drop (length front + widths (take j rs)) (front ++ (saved values rs ++ rest)))
+    ≡ entry-bits (getD rs j no-row .kind) (getD rs j no-row .len) (part values (getD rs j no-row))
+unfolding saved widths Keeps
+row-saved values hn [] k front rest j h = absurd (not-suc-le-zero h)
+row-saved values hn (r ∷ rs) k front rest zero h =
+    let own : List ℕ = entry-bits (r .kind) (r .len) (part values r) in
+    let lo : length own ≡ row-width r = length-entry (r .kind) (r .len) (part values r) (part-long values r (k .0) hn) in
+    ap (take (row-width r)) (drop-at front ((own ++ saved values rs) ++ rest) (length front + 0) (omega arith) ∙ append-assoc own (saved values rs) rest)
+    ∙ take-at own (saved values rs ++ rest) (row-width r) lo
+row-saved values hn (r ∷ rs) k front rest (suc j) h =
+    let own : List ℕ = entry-bits (r .kind) (r .len) (part values r) in
+    let lo : length own ≡ row-width r = length-entry (r .kind) (r .len) (part values r) (part-long values r (k .0) hn) in
+    let f : front ++ ((own ++ saved values rs) ++ rest) ≡ (front ++ own) ++ (saved values rs ++ rest) =
+    ap (λ (l : List ℕ). front ++ l) (append-assoc own (saved values rs) rest) ∙ sym (append-assoc front own (saved values rs ++ rest)) in
+    let n : length front + (row-width r + widths (take j rs)) ≡ length (front ++ own) + widths (take j rs) = omega (arith, length-append front own) in
+    rw (f, n) (row-saved values hn rs (k .1) (front ++ own) rest j (le-of-suc-le-suc h))
+
+-- the j-th NV entry begins after the 8 bits of layout and model and the entries before it
+pub entry-place : (model : ℕ) (values : List ℕ) (rs : List Row) → Keeps rs → length values ≡ 1024 → (j : ℕ) → j < length rs
+    → take (row-width (getD rs j no-row)) (drop (8 + widths (take j rs)) (block-of model values rs))
+    ≡ entry-bits (getD rs j no-row .kind) (getD rs j no-row .len) (part values (getD rs j no-row))
+entry-place model values rs k n j h =
+    ap (λ (b : List ℕ). take (row-width (getD rs j no-row)) (drop (8 + widths (take j rs)) b)) (block-parts model values rs)
+    ∙ ap (λ (m : ℕ). take (row-width (getD rs j no-row)) (drop (m + widths (take j rs)) (head model ++ (saved values rs ++ replicate (4096 - (8 + widths rs)) 0)))) (sym (length-head model))
+    ∙ row-saved values n rs k (head model) (replicate (4096 - (8 + widths rs)) 0) j h
+
+-- ---- stored after loaded: the same bits
+
+module _ (bs : List ℕ) (sm : Small bs) where
+  rows-bits : (rs : List Row) (from at : ℕ) (values : List ℕ) → Keeps rs → Rising from rs → length values ≡ 1024 → at + widths rs ≤ length bs
+      → saved (load-rows bs at rs values) rs ≡ take (widths rs) (drop at bs)
+  unfolding saved load-rows widths Keeps Rising
+  rows-bits [] from at values k t n h = refl
+  rows-bits (r ∷ rs) from at values k t n h =
+      let own : List ℕ = entry-bytes (r .kind) (r .len) (drop at bs) in
+      let mid : List ℕ = splice values (r .place) own in
+      let lm : length mid ≡ 1024 = length-one values r (drop at bs) (k .0) n in
+      let one : part (load-rows bs (at + row-width r) rs mid) r ≡ own =
+      load-beside bs (at + row-width r) rs mid (r .place) (r .len) (k .1) (rising-clear rs (r .place) (r .len) (t .1)) lm
+      ∙ part-same values (r .place) own (room-of values r (k .0) n) (r .len) (length-bytes (r .kind) (r .len) (drop at bs)) in
+      let two : entry-bits (r .kind) (r .len) own ≡ take (row-width r) (drop at bs) =
+      back-entry (r .kind) (r .len) (drop at bs) (small-drop at bs sm) (omega (arith, length-drop at bs)) (k .0 .sized .some) in
+      rw (one, two, rows-bits rs (r .place + r .len) (at + row-width r) mid (k .1) (t .1) lm (omega arith))
+      (rw (← drop-drop (row-width r) at bs) (sym (take-add (row-width r) (widths rs) (drop at bs))))
+
+  -- the values loaded from good bits are good
+  rows-values : (rs : List Row) (from at : ℕ) (values : List ℕ) → Keeps rs → Rising from rs → length values ≡ 1024 → at + widths rs ≤ length bs
+      → rows-good bs at rs ≡ true → values-good (load-rows bs at rs values) rs ≡ true
+  unfolding values-good rows-good load-rows widths Keeps Rising number field
+  rows-values [] from at values k t n h g = refl
+  rows-values (r ∷ rs) from at values k t n h g =
+      let own : List ℕ = entry-bytes (r .kind) (r .len) (drop at bs) in
+      let mid : List ℕ = splice values (r .place) own in
+      let lm : length mid ≡ 1024 = length-one values r (drop at bs) (k .0) n in
+      let gg = and-true (within r (num (take (row-width r) (drop at bs)))) (rows-good bs (at + row-width r) rs) g in
+      let one : part (load-rows bs (at + row-width r) rs mid) r ≡ own =
+      load-beside bs (at + row-width r) rs mid (r .place) (r .len) (k .1) (rising-clear rs (r .place) (r .len) (t .1)) lm
+      ∙ part-same values (r .place) own (room-of values r (k .0) n) (r .len) (length-bytes (r .kind) (r .len) (drop at bs)) in
+      let w : within r (fromLittle own) ≡ true =
+      number-or-string (r .kind)
+      (λ c. ap (within r) (number-back (r .kind) (r .len) (drop at bs) (small-drop at bs sm) (omega (arith, length-drop at bs)) (k .0 .sized .some) c) ∙ gg .0)
+      (λ c. sym (within-string r _ c)) in
+      rw (one, w) (rows-values rs (r .place + r .len) (at + row-width r) mid (k .1) (t .1) lm (omega arith) (gg .1))
+
+  part-num : (at w : ℕ) → at + w ≤ length bs → msb w (field bs at w) ≡ take w (drop at bs)
+  unfolding field
+  part-num at w h = msb-num w (take w (drop at bs)) (small-take w (drop at bs) (small-drop at bs sm)) (length-take-le w (drop at bs) (omega (arith, length-drop at bs)))
+
+  take-rest : (w at : ℕ) → take w (drop at bs) ++ drop (at + w) bs ≡ drop at bs
+  take-rest w at = ap (λ (l : List ℕ). take w (drop at bs) ++ l) (sym (drop-drop w at bs)) ∙ take-append-drop w (drop at bs)
+
+  -- a block that is not faulty, loaded into any values, stores as the same block
+  pub store-loaded : (model : ℕ) (rs : List Row) (values : List ℕ) → Keeps rs → Rising 0 rs → length values ≡ 1024 → length bs ≡ 4096 → 8 + widths rs ≤ 4096
+      → good model bs rs ≡ true → block-of model (load-rows bs 8 rs values) rs ≡ bs
+  unfolding block-of good
+  store-loaded model rs values k t n e u g =
+      let w : ℕ = widths rs in
+      let ga = and-true (eqb (field bs 0 4) LAYOUT) (eqb (field bs 4 4) model && (rows-good bs 8 rs && all-zero (drop (8 + w) bs))) g in
+      let gb = and-true (eqb (field bs 4 4) model) (rows-good bs 8 rs && all-zero (drop (8 + w) bs)) (ga .1) in
+      let gc = and-true (rows-good bs 8 rs) (all-zero (drop (8 + w) bs)) (gb .1) in
+      let lay : msb 4 LAYOUT ≡ take 4 bs = ap (msb 4) (sym (eqb-true (field bs 0 4) LAYOUT (ga .0))) ∙ part-num 0 4 (omega arith) in
+      let mdl : msb 4 model ≡ take 4 (drop 4 bs) = ap (msb 4) (sym (eqb-true (field bs 4 4) model (gb .0))) ∙ part-num 4 4 (omega arith) in
+      let ln : length (drop (8 + w) bs) ≡ 4096 - (8 + w) = length-drop (8 + w) bs ∙ ap (λ (x : ℕ). x - (8 + w)) e in
+      let zs : replicate (4096 - (8 + w)) 0 ≡ drop (8 + w) bs = sym (zeros-are (drop (8 + w) bs) (gc .1) ∙ ap (λ (j : ℕ). replicate {A = ℕ} j 0) ln) in
+      let rb : saved (load-rows bs 8 rs values) rs ≡ take w (drop 8 bs) = rows-bits rs 0 8 values k t n (omega arith) in
+      rw (lay, mdl, rb, zs)
+      (ap (λ (l : List ℕ). take 4 bs ++ (take 4 (drop 4 bs) ++ l)) (take-rest w 8)
+      ∙ ap (λ (l : List ℕ). take 4 bs ++ l) (take-rest 4 4)
+      ∙ take-append-drop 4 bs)
+
+  pub loaded-good : (model : ℕ) (rs : List Row) (values : List ℕ) → Keeps rs → Rising 0 rs → length values ≡ 1024 → length bs ≡ 4096 → 8 + widths rs ≤ 4096
+      → good model bs rs ≡ true → values-good (load-rows bs 8 rs values) rs ≡ true
+  unfolding good
+  loaded-good model rs values k t n e u g =
+      let w : ℕ = widths rs in
+      let ga = and-true (eqb (field bs 0 4) LAYOUT) (eqb (field bs 4 4) model && (rows-good bs 8 rs && all-zero (drop (8 + w) bs))) g in
+      let gb = and-true (eqb (field bs 4 4) model) (rows-good bs 8 rs && all-zero (drop (8 + w) bs)) (ga .1) in
+      rows-values rs 0 8 values k t n (omega arith) (and-true (rows-good bs 8 rs) (all-zero (drop (8 + w) bs)) (gb .1) .0)

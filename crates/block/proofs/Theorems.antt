@@ -1,0 +1,177 @@
+-- THE SAVED BLOCK of the BAG552: a load after a store leaves every NV entry as it was, a store after a load gives the same 512
+-- bytes, a faulty block changes nothing, and an entry without NV mark is never touched. Assumes nothing.
+use mathlib.Core.Bool.{Bool, true, false, cond, or-true}
+use mathlib.Core.List.{List, [], _∷_, _++_}
+use mathlib.Core.Logic.{⊎-elim}
+use mathlib.Core.Path.{_≡_, refl, sym, ap, _∙_}
+use Prim.Native.Nat.{ℕ, zero, suc, _+_, _-_, _*_, _≤_, _<_}
+use native.Mathlib.Omega.{arith}
+use lib.Dec.{leb, lit<}
+use lib.ListN.{length, take, drop, getD, replicate, length-append, length-replicate}
+use lib.Seq.{take-all}
+use borrow.Author.Tests.{le-leb}
+use Rattle.bits.proofs.Numbers.{length-msb, length-bits, length-packed, bits-packed, bytes-of, small-bits, small-msb, small-append}
+use Rattle.bits.specs.Bits.{msb, bits, packed, Small, Bytes}
+use Rattle.block.proofs.Entries.{small-entry}
+use Rattle.block.proofs.RoundTrips.{Clear, Rising, copy-rows, copied-entry, copy-own, load-beside, length-load, load-stored, stored-good, store-loaded, loaded-good}
+use Rattle.block.proofs.Tables.{Among, nv-among, nv-clear, table-rises}
+use Rattle.block.proofs.Turns.{bools-ok, nv-keep, used, kept-at}
+use Rattle.block.proofs.Walking.{length-saved}
+use Rattle.block.specs.Block.{LAYOUT, BAG552, part, entry-bits, widths, saved, load-rows, values-good, block-of, good}
+use Rattle.block.specs.Saved.{nv, storable, stored, loadable, loaded}
+use Rattle.entry.specs.Entry.{entry-of}
+use Rattle.table.proofs.Table.{rows-pass, rows-length, disjoint}
+use Rattle.table.specs.Row.{Row, no-row}
+use Rattle.table.specs.Rows.{rows, row-count, at-row}
+use Rattle.table.specs.Rule.{held}
+use Rattle.wire.specs.Splice.{apart}
+
+nv-rise : Rising 0 nv
+nv-rise = table-rises rows rows-pass bools-ok
+
+-- ---- the block of any values
+
+small-saved : (values : List ℕ) (rs : List Row) → Small (saved values rs)
+unfolding saved Small
+small-saved values [] = tt
+small-saved values (r ∷ rs) = small-append (entry-bits (r .kind) (r .len) (part values r)) (saved values rs) (small-entry (r .kind) (r .len) (part values r)) (small-saved values rs)
+
+small-zeros : (n : ℕ) → Small (replicate n 0)
+unfolding Small
+small-zeros zero = tt
+small-zeros (suc n) = (lit< tt, small-zeros n)
+
+small-block : (values : List ℕ) → Small (block-of BAG552 values nv)
+unfolding block-of
+small-block values =
+    let s : List ℕ = saved values nv in
+    let z : List ℕ = replicate (4096 - (8 + widths nv)) 0 in
+    small-append (msb 4 LAYOUT) (msb 4 BAG552 ++ (s ++ z)) (small-msb 4 LAYOUT)
+    (small-append (msb 4 BAG552) (s ++ z) (small-msb 4 BAG552) (small-append s z (small-saved values nv) (small-zeros (4096 - (8 + widths nv)))))
+
+length-block : (values : List ℕ) → length values ≡ 1024 → length (block-of BAG552 values nv) ≡ 4096
+unfolding block-of
+length-block values n =
+    let s : List ℕ = saved values nv in
+    let z : List ℕ = replicate (4096 - (8 + widths nv)) 0 in
+    omega (arith, length-append (msb 4 LAYOUT) (msb 4 BAG552 ++ (s ++ z)), length-append (msb 4 BAG552) (s ++ z), length-append s z, length-msb 4 LAYOUT, length-msb 4 BAG552, length-saved values nv nv-keep n, length-replicate {A = ℕ} (4096 - (8 + widths nv)) 0, used)
+
+bits-block : (values : List ℕ) → length values ≡ 1024 → bits (packed 512 (block-of BAG552 values nv)) ≡ block-of BAG552 values nv
+bits-block values n =
+    let l : length (block-of BAG552 values nv) ≡ 4096 = length-block values n in
+    bits-packed 512 (block-of BAG552 values nv) (small-block values) (omega arith)
+    ∙ take-all 4096 (block-of BAG552 values nv) (omega arith)
+
+-- ---- lengths
+
+pub length-stored : (values block : List ℕ) → length block ≡ 512 → length (stored values block) ≡ 512
+unfolding stored
+length-stored values block n = go (storable values)
+  where
+    go : (b : Bool) → length (cond b (packed 512 (block-of BAG552 values nv)) block) ≡ 512
+    go true = length-packed 512 _
+    go false = n
+
+pub length-loaded : (block values : List ℕ) → length values ≡ 1024 → length (loaded block values) ≡ 1024
+unfolding loaded
+length-loaded block values n = go (loadable block)
+  where
+    go : (b : Bool) → length (cond b (load-rows (bits block) 8 nv values) values) ≡ 1024
+    go true = length-load (bits block) 8 nv values nv-keep n
+    go false = n
+
+-- ---- load after store
+
+entry-part : (values : List ℕ) (k : ℕ) → k < row-count → at-row k .nv ≡ 1 → entry-of (at-row k) values ≡ part values (at-row k)
+unfolding entry-of
+entry-part values k h m = ap (λ (n : ℕ). take n (drop (at-row k .place) values)) (kept-at k h m .held-all)
+
+module _ (values block : List ℕ) (hb : Bytes values) (hn : length values ≡ 1024) (ok : storable values ≡ true) where
+  stored-is : stored values block ≡ packed 512 (block-of BAG552 values nv)
+  unfolding stored
+  stored-is = rw ok
+
+  stored-bits : bits (stored values block) ≡ block-of BAG552 values nv
+  stored-bits = ap bits stored-is ∙ bits-block values hn
+
+  -- what was stored is not faulty
+  pub stored-loadable : loadable (stored values block) ≡ true
+  unfolding loadable storable
+  stored-loadable = ap (λ (b : List ℕ). good BAG552 b nv) stored-bits ∙ stored-good values hb hn BAG552 nv nv-keep ok (lit< tt)
+
+  loaded-is : (others : List ℕ) → loaded (stored values block) others ≡ copy-rows values nv others
+  unfolding loaded storable
+  loaded-is others =
+      rw stored-loadable (ap (λ (b : List ℕ). load-rows b 8 nv others) stored-bits ∙ load-stored values hb hn BAG552 nv nv-keep ok others)
+
+  -- every NV entry is as it was at the store, whatever the values became
+  pub load-restores : (others : List ℕ) → length others ≡ 1024 → (k : ℕ) → k < row-count → at-row k .nv ≡ 1
+      → entry-of (at-row k) (loaded (stored values block) others) ≡ entry-of (at-row k) values
+  load-restores others n k h m =
+      let a : Among nv (at-row k) = nv-among rows k (omega (arith, rows-length)) m in
+      let e : part (copy-rows values nv others) (getD nv (a .nth) no-row) ≡ part values (getD nv (a .nth) no-row) =
+      copied-entry values nv 0 others nv-keep nv-rise hn n (a .nth) (a .there) in
+      entry-part (loaded (stored values block) others) k h m
+      ∙ ap (λ (v : List ℕ). part v (at-row k)) (loaded-is others)
+      ∙ (rw (a .is) at e)
+      ∙ sym (entry-part values k h m)
+
+  -- and the values themselves are left
+  pub load-leaves : loaded (stored values block) values ≡ values
+  load-leaves = loaded-is values ∙ copy-own values nv nv-keep hn
+
+-- a store that is refused writes nothing
+pub store-refused : (values block : List ℕ) → storable values ≡ false → stored values block ≡ block
+unfolding stored
+store-refused values block e = rw e
+
+-- ---- store after load
+
+module _ (block values : List ℕ) (hb : Bytes block) (lb : length block ≡ 512) (hn : length values ≡ 1024) (ok : loadable block ≡ true) where
+  loaded-all : loaded block values ≡ load-rows (bits block) 8 nv values
+  unfolding loaded
+  loaded-all = rw ok
+
+  pub loaded-storable : storable (loaded block values) ≡ true
+  unfolding storable loadable
+  loaded-storable =
+      ap (λ (v : List ℕ). values-good v nv) loaded-all
+      ∙ loaded-good (bits block) (small-bits block) BAG552 nv values nv-keep nv-rise hn (length-bits block ∙ ap (λ (n : ℕ). 8 * n) lb) used ok
+
+  -- the same 512 bytes
+  pub store-after-load : (old : List ℕ) → stored (loaded block values) old ≡ block
+  unfolding stored loadable
+  store-after-load old =
+      rw loaded-storable
+      (ap (λ (v : List ℕ). packed 512 (block-of BAG552 v nv)) loaded-all
+      ∙ ap (packed 512) (store-loaded (bits block) (small-bits block) BAG552 nv values nv-keep nv-rise hn (length-bits block ∙ ap (λ (n : ℕ). 8 * n) lb) used ok)
+      ∙ ap (λ (n : ℕ). packed n (bits block)) (sym lb)
+      ∙ bytes-of block hb)
+
+-- a faulty block changes no value byte
+pub faulty-leaves : (block values : List ℕ) → loadable block ≡ false → loaded block values ≡ values
+unfolding loaded
+faulty-leaves block values e = rw e
+
+-- ---- an entry without NV mark is never touched
+
+apart-by : (p n q m : ℕ) → (p + n ≤ q → apart p n q m ≡ true) × (q + m ≤ p → apart p n q m ≡ true)
+apart-by p n q m = ((λ h. rw (le-leb (p + n) q h)), (λ h. rw (le-leb (q + m) p h) (or-true (leb (p + n) q))))
+
+other-clear : (k : ℕ) → k < row-count → (at-row k .nv ≡ 1 → ⊥) → Clear nv (at-row k .place) (held (at-row k))
+other-clear k h d =
+    nv-clear rows (at-row k .place) (held (at-row k))
+    (λ j l m.
+    let r : j < row-count = omega (arith, rows-length) in
+    let e : held (at-row j) ≡ at-row j .len = kept-at j r m .held-all in
+    let b = apart-by (at-row j .place) (at-row j .len) (at-row k .place) (held (at-row k)) in
+    ⊎-elim (λ x. b .0 (omega arith)) (λ x. b .1 x) (disjoint j k r h (λ s. d (rw s at m))))
+
+pub load-other : (block values : List ℕ) → length values ≡ 1024 → (k : ℕ) → k < row-count → (at-row k .nv ≡ 1 → ⊥)
+    → entry-of (at-row k) (loaded block values) ≡ entry-of (at-row k) values
+unfolding loaded entry-of
+load-other block values n k h d = go (loadable block)
+  where
+    go : (b : Bool) → take (held (at-row k)) (drop (at-row k .place) (cond b (load-rows (bits block) 8 nv values) values)) ≡ take (held (at-row k)) (drop (at-row k .place) values)
+    go true = load-beside (bits block) 8 nv values (at-row k .place) (held (at-row k)) nv-keep (other-clear k h d) n
+    go false = refl

@@ -1,0 +1,89 @@
+-- The laws of bits that are all zero, by fields and by bytes. Assumes nothing.
+use mathlib.Core.Bool.{Bool, true, false, _&&_}
+use mathlib.Core.List.{List, [], _∷_, _++_}
+use mathlib.Core.Path.{_≡_, refl, sym, ap, _∙_}
+use Prim.Native.Nat.{ℕ, zero, suc, _+_, _*_, _≤_, _<_}
+use native.Mathlib.Numerals.{add-one}
+use native.Mathlib.Omega.{arith}
+use lib.Dec.{eqb}
+use lib.ListN.{length, take, drop, getD, replicate, take-append-drop, drop-of-length-le}
+use lib.Seq.{drop-cons, drop-drop, drop-at}
+use borrow.Author.Tests.{ne-eqb, eqb-true}
+use Rattle.bits.proofs.Numbers.{length-msb, num-msb}
+use Rattle.bits.specs.Bits.{msb, bits, num-from, num, field, Bytes}
+use Rattle.block.proofs.Walking.{and-true}
+use Rattle.block.specs.Block.{all-zero}
+
+and-assoc : (a b c : Bool) → ((a && b) && c) ≡ (a && (b && c))
+and-assoc true b c = refl
+and-assoc false b c = refl
+
+and-last : (a : Bool) → a ≡ (a && true)
+and-last true = refl
+and-last false = refl
+
+pub zero-append : (xs ys : List ℕ) → all-zero (xs ++ ys) ≡ (all-zero xs && all-zero ys)
+unfolding all-zero
+zero-append [] ys = refl
+zero-append (x ∷ xs) ys = ap (λ (b : Bool). eqb x 0 && b) (zero-append xs ys) ∙ sym (and-assoc (eqb x 0) (all-zero xs) (all-zero ys))
+
+-- bits that say 0 are zeros
+double : (a b : ℕ) → eqb (a * 2 + b) 0 ≡ (eqb a 0 && eqb b 0)
+double zero b =
+    let e : zero * 2 + b ≡ b = omega arith in
+    ap (λ (n : ℕ). eqb n 0) e
+double (suc a) b = ne-eqb (suc a * 2 + b) 0 (λ e. omega arith) ∙ sym (ap (λ (x : Bool). x && eqb b 0) (ne-eqb (suc a) 0 (λ e. omega arith)))
+
+zero-from : (a : ℕ) (bs : List ℕ) → eqb (num-from a bs) 0 ≡ (eqb a 0 && all-zero bs)
+unfolding num-from all-zero
+zero-from a [] = and-last (eqb a 0)
+zero-from a (b ∷ bs) =
+    zero-from (a * 2 + b) bs ∙ ap (λ (x : Bool). x && all-zero bs) (double a b) ∙ and-assoc (eqb a 0) (eqb b 0) (all-zero bs)
+
+zero-num : (bs : List ℕ) → eqb (num bs) 0 ≡ all-zero bs
+unfolding num
+zero-num bs = zero-from 0 bs
+
+-- a field, and what comes after it
+pub zero-field : (bs : List ℕ) (at w : ℕ) {n : ℕ} → n ≡ field bs at w → all-zero (drop at bs) ≡ (eqb n 0 && all-zero (drop (at + w) bs))
+unfolding field
+zero-field bs at w {n} e =
+    ap all-zero (sym (take-append-drop w (drop at bs)))
+    ∙ zero-append (take w (drop at bs)) (drop w (drop at bs))
+    ∙ ap (λ (x : Bool). x && all-zero (drop w (drop at bs))) (sym (ap (λ (k : ℕ). eqb k 0) e ∙ zero-num (take w (drop at bs))))
+    ∙ ap (λ (l : List ℕ). eqb n 0 && all-zero l) (drop-drop w at bs)
+
+-- a byte, and what comes after it
+pub bits-drop : (s : List ℕ) (i : ℕ) → drop (8 * i) (bits s) ≡ bits (drop i s)
+unfolding bits
+bits-drop s zero = refl
+bits-drop [] (suc i) = drop-of-length-le [] {i = 8 * suc i} (omega arith)
+bits-drop (x ∷ s) (suc i) =
+    let e : 8 * suc i ≡ 8 + 8 * i = omega arith in
+    rw e (sym (drop-drop (8 * i) 8 (msb 8 x ++ bits s)) ∙ ap (drop (8 * i)) (drop-at (msb 8 x) (bits s) 8 (length-msb 8 x)) ∙ bits-drop s i)
+
+pub zero-byte : (s : List ℕ) (i : ℕ) → i < length s → Bytes s → all-zero (drop (8 * i) (bits s)) ≡ (eqb (getD s i 0) 0 && all-zero (drop (8 * (i + 1)) (bits s)))
+unfolding bits
+zero-byte s i h b =
+    ap all-zero (bits-drop s i ∙ ap bits (drop-cons s i 0 h))
+    ∙ zero-append (msb 8 (getD s i 0)) (bits (drop (suc i) s))
+    ∙ ap (λ (x : Bool). x && all-zero (bits (drop (suc i) s))) (sym (zero-num (msb 8 (getD s i 0))) ∙ ap (λ (n : ℕ). eqb n 0) (num-msb 8 (getD s i 0) (b i)))
+    ∙ ap (λ (k : ℕ). eqb (getD s i 0) 0 && all-zero (bits (drop k s))) (sym (add-one i))
+    ∙ ap (λ (l : List ℕ). eqb (getD s i 0) 0 && all-zero l) (sym (bits-drop s (i + 1)))
+
+-- past the end there is nothing
+pub zero-end : (bs : List ℕ) (k : ℕ) → length bs ≤ k → true ≡ all-zero (drop k bs)
+unfolding all-zero
+zero-end bs k h = ap all-zero (sym (drop-of-length-le bs {i = k} h))
+
+pub zeros : (n : ℕ) → all-zero (replicate n 0) ≡ true
+unfolding all-zero
+zeros zero = refl
+zeros (suc n) = zeros n
+
+pub zeros-are : (l : List ℕ) → all-zero l ≡ true → l ≡ replicate (length l) 0
+unfolding all-zero
+zeros-are [] e = refl
+zeros-are (b ∷ bs) e =
+    let k = and-true (eqb b 0) (all-zero bs) e in
+    rw (eqb-true b 0 (k .0)) (ap (λ (l : List ℕ). 0 ∷ l) (zeros-are bs (k .1)))

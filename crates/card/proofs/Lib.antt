@@ -1,0 +1,8 @@
+-- Laws of the trip card.
+pub mod Fields
+pub mod Made
+pub mod Shown
+pub mod Stored
+pub mod RoundTrip
+pub mod Entries
+mod Examples

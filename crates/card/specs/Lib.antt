@@ -1,0 +1,2 @@
+-- What the contracts of `card` cite.
+pub mod Card

@@ -1,0 +1,160 @@
+-- A whole read and a whole write by cases, as the code takes them: each law takes what the calls ensure. Assumes nothing.
+use mathlib.Core.Path.{_≡_, refl, sym, ap, _∙_}
+use mathlib.Core.Bool.{Bool, true, false, cond}
+use mathlib.Core.List.{List, [], _∷_}
+use Prim.Native.Nat.{ℕ, _≤_, _<_}
+use native.Mathlib.Omega.{arith}
+use lib.Dec.{eqb}
+use lib.ListN.{length, replicate}
+use borrow.Author.Tests.{eq-eqb, ne-eqb}
+use Rattle.wire.specs.Splice.{splice}
+use Rattle.order.specs.Talk.{Outcome, stored, restarted, declined}
+use Rattle.table.specs.Row.{Row, CARD, COMMAND}
+use Rattle.table.specs.Rows.{rows, row-count, at-row}
+use Rattle.table.specs.Rule.{held, width-of}
+use Rattle.table.proofs.Rules.{RowRule}
+use Rattle.table.proofs.Table.{row-rule}
+use Rattle.entry.specs.Limits.{verdict-code}
+use Rattle.entry.specs.Entry.{copied, defaults, row-verdict}
+use Rattle.entry.specs.Entry as entry
+use Rattle.entry.specs.declared.limits.Verdict.{Verdict}
+use Rattle.entry.specs.declared.limits.Verdict.the-variants.{Within, NotANumber, Above, Below}
+use Rattle.entry.proofs.RowLaws.{held-is}
+use Rattle.card.specs.Card.{card-of, card-verdict, with-card}
+use Rattle.block.specs.Saved.{storable, loadable, loaded}
+use Rattle.block.specs.Saved as saved
+use Rattle.gauge.specs.Memory.{Memory, memory-of, with-values}
+use Rattle.gauge.specs.Words.{command-at, word-of, read-word, with-status, same-bytes}
+use Rattle.gauge.specs.Lock.{locked}
+use Rattle.gauge.specs.Exceptions.{exceptions-cleared}
+use Rattle.gauge.specs.PowerUp.{fresh-values, powered-up}
+use Rattle.gauge.specs.Commands.{status-by, done, obeyed}
+use Rattle.gauge.specs.Endings.{Left, left, left-by}
+use Rattle.gauge.specs.Whole.{by-type, value-of, check, first-code, verdict-of, is-code, last-checks, effect, accepted, commit-row}
+use Rattle.gauge.specs.declared.commit.Ending.{Ending}
+use Rattle.gauge.specs.declared.commit.Ending.the-variants.{Accepted, Restarted, Refused}
+use Rattle.gauge.specs.declared.word.Command.{Command}
+use Rattle.gauge.specs.declared.word.Command.the-variants.{DeviceReset, ExceptionReset, StoreParameters, LoadParameters}
+
+-- ---- by type
+
+module _ {A : Type 0} (r : Row) (k : ℕ) (kind : k ≡ r .kind) (card command other : A) where
+  pub of-card : k ≡ CARD → by-type r card command other ≡ card
+  unfolding by-type
+  of-card e = rw (eq-eqb (r .kind) CARD (sym kind ∙ e))
+
+  pub of-command : k ≡ COMMAND → by-type r card command other ≡ command
+  unfolding by-type
+  of-command e = rw (sym kind ∙ e)
+
+  pub of-other : (k ≡ CARD → ⊥) → (k ≡ COMMAND → ⊥) → by-type r card command other ≡ other
+  unfolding by-type
+  of-other n m = rw (ne-eqb (r .kind) CARD (λ e. n (kind ∙ e)), ne-eqb (r .kind) COMMAND (λ e. m (kind ∙ e)))
+
+pub card-length : (k : ℕ) → k < row-count → at-row k .kind ≡ CARD → at-row k .len ≡ 33
+unfolding width-of
+card-length k h e = rw e at (row-rule k h .width)
+
+pub other-held : (k : ℕ) → k < row-count → (at-row k .kind ≡ CARD → ⊥) → (at-row k .kind ≡ COMMAND → ⊥) → held (at-row k) ≡ at-row k .len
+other-held k h n m = held-is (at-row k) (below (at-row k .kind) (row-rule k h .kind-known) n m)
+  where
+    below : (j : ℕ) → j ≤ COMMAND → (j ≡ CARD → ⊥) → (j ≡ COMMAND → ⊥) → j < CARD
+    below j l a b = omega arith
+
+-- ---- the last checks
+
+module _ (r : Row) (values bytes : List ℕ) where
+  pub lock-refuses : locked r values ≡ true → 0x08000022 ≡ first-code (last-checks r values bytes)
+  unfolding last-checks first-code
+  lock-refuses e = rw e
+
+  -- the three tests of the limits give the verdict's own code
+  pub limits-first : (v : Verdict) → verdict-of r bytes ≡ v → locked r values ≡ false → verdict-code v ≡ first-code (last-checks r values bytes)
+  unfolding last-checks first-code verdict-code
+  limits-first Within e l = rw (l, e)
+  limits-first NotANumber e l = rw (l, e)
+  limits-first Above e l = rw (l, e)
+  limits-first Below e l = rw (l, e)
+
+  pub card-judged : r .kind ≡ CARD → verdict-of r bytes ≡ card-verdict bytes
+  unfolding verdict-of
+  card-judged e = rw (eq-eqb (r .kind) CARD e)
+
+  pub entry-judged : (r .kind ≡ CARD → ⊥) → verdict-of r bytes ≡ row-verdict r bytes
+  unfolding verdict-of
+  entry-judged n = rw (ne-eqb (r .kind) CARD n)
+
+-- ---- commands
+
+module _ (v b : List ℕ) where
+  pub reset-done : {v′ : List ℕ} → v′ ≡ fresh-values b → left Restarted v′ b ≡ left-by (memory-of v b) (done DeviceReset (memory-of v b))
+  unfolding done left-by powered-up
+  reset-done e = rw e
+
+  pub exceptions-done : {v₁ v₂ : List ℕ} → v₁ ≡ exceptions-cleared v → v₂ ≡ with-status ExceptionReset 0 v₁
+      → left Accepted v₂ b ≡ left-by (memory-of v b) (done ExceptionReset (memory-of v b))
+  unfolding done left-by
+  exceptions-done e₁ e₂ = rw (e₂, e₁)
+
+  pub store-done : {v′ b′ : List ℕ} {right : Bool} {code : ℕ} → right ≡ storable v → b′ ≡ saved.stored v b → code ≡ status-by right
+      → v′ ≡ with-status StoreParameters code v → left Accepted v′ b′ ≡ left-by (memory-of v b) (done StoreParameters (memory-of v b))
+  unfolding done left-by
+  store-done er eb ec ev = rw (ev, eb, ec, er)
+
+  pub load-done : {v₁ v₂ : List ℕ} {right : Bool} {code : ℕ} → right ≡ loadable b → v₁ ≡ loaded b v → code ≡ status-by right
+      → v₂ ≡ with-status LoadParameters code v₁ → left Accepted v₂ b ≡ left-by (memory-of v b) (done LoadParameters (memory-of v b))
+  unfolding done left-by
+  load-done er e₁ ec e₂ = rw (e₂, e₁, ec, er)
+
+  pub word-right : (c : Command) (bytes : List ℕ) → same-bytes bytes (word-of c) ≡ true → obeyed c bytes (memory-of v b) ≡ done c (memory-of v b)
+  unfolding obeyed
+  word-right c bytes e = rw e
+
+  pub word-wrong : (c : Command) (bytes : List ℕ) {v′ : List ℕ} → same-bytes bytes (word-of c) ≡ false → v′ ≡ with-status c 2 v
+      → left Accepted v′ b ≡ left-by (memory-of v b) (obeyed c bytes (memory-of v b))
+  unfolding obeyed left-by
+  word-wrong c bytes e q = rw (e, q)
+
+  -- ---- what an accepted write does
+
+  pub stored-values : {v′ : List ℕ} (o : Outcome Memory) → o ≡ stored (memory-of v′ b) → left Accepted v′ b ≡ left-by (memory-of v b) o
+  unfolding left-by
+  stored-values o e = rw e
+
+  module _ (r : Row) (bytes : List ℕ) (k : ℕ) (kind : k ≡ r .kind) where
+    pub put-card : {v′ : List ℕ} → k ≡ CARD → v′ ≡ with-card v bytes → left Accepted v′ b ≡ left-by (memory-of v b) (effect r bytes (memory-of v b))
+    unfolding effect left-by
+    put-card e q = rw (of-card r k kind (stored (memory-of (with-card v bytes) b)) (obeyed (command-at (r .index)) bytes (memory-of v b)) (stored (memory-of (entry.stored r v bytes) b)) e, q)
+
+    pub put-command : {x : Left} → k ≡ COMMAND → x ≡ left-by (memory-of v b) (obeyed (command-at (r .index)) bytes (memory-of v b))
+        → x ≡ left-by (memory-of v b) (effect r bytes (memory-of v b))
+    unfolding effect
+    put-command e q = rw (of-command r k kind (stored (memory-of (with-card v bytes) b)) (obeyed (command-at (r .index)) bytes (memory-of v b)) (stored (memory-of (entry.stored r v bytes) b)) e) q
+
+    pub put-other : {v′ : List ℕ} → (k ≡ CARD → ⊥) → (k ≡ COMMAND → ⊥) → v′ ≡ entry.stored r v bytes → left Accepted v′ b ≡ left-by (memory-of v b) (effect r bytes (memory-of v b))
+    unfolding effect left-by
+    put-other n m q = rw (of-other r k kind (stored (memory-of (with-card v bytes) b)) (obeyed (command-at (r .index)) bytes (memory-of v b)) (stored (memory-of (entry.stored r v bytes) b)) n m, q)
+
+  module _ (r : Row) (bytes : List ℕ) (code : ℕ) (first : code ≡ first-code (last-checks r v bytes)) where
+    pub commit-refused : (code ≡ 0 → ⊥) → left (Refused code) v b ≡ left-by (memory-of v b) (commit-row r bytes (memory-of v b))
+    unfolding commit-row accepted left-by
+    commit-refused n = rw (← first, ne-eqb code 0 n)
+
+    pub commit-accepted : {x : Left} → code ≡ 0 → x ≡ left-by (memory-of v b) (effect r bytes (memory-of v b)) → x ≡ left-by (memory-of v b) (commit-row r bytes (memory-of v b))
+    unfolding commit-row accepted
+    commit-accepted e q = rw (← first, e) q
+
+-- ---- the value of a row
+
+module _ (r : Row) (values : List ℕ) (k : ℕ) (kind : k ≡ r .kind) where
+  pub read-card : {x : List ℕ} → k ≡ CARD → x ≡ splice (replicate 64 0) 0 (card-of values) → x ≡ splice (replicate 64 0) 0 (value-of r values)
+  unfolding value-of
+  read-card e q = rw (of-card r k kind (card-of values) (read-word (command-at (r .index))) (entry.entry-of r values) e) q
+
+  pub read-command : {x : List ℕ} → k ≡ COMMAND → x ≡ splice (replicate 64 0) 0 (read-word (command-at (r .index))) → x ≡ splice (replicate 64 0) 0 (value-of r values)
+  unfolding value-of
+  read-command e q = rw (of-command r k kind (card-of values) (read-word (command-at (r .index))) (entry.entry-of r values) e) q
+
+  pub read-other : {x : List ℕ} → (k ≡ CARD → ⊥) → (k ≡ COMMAND → ⊥) → x ≡ copied r values → x ≡ splice (replicate 64 0) 0 (value-of r values)
+  unfolding value-of copied
+  read-other n m q = rw (of-other r k kind (card-of values) (read-word (command-at (r .index))) (entry.entry-of r values) n m) q

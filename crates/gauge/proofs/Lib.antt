@@ -1,0 +1,3 @@
+pub mod GateLaws
+pub mod SameBytes
+pub mod CommitLaws

@@ -1,0 +1,11 @@
+-- "Exception reset clears the latched words": F390 and F391 to F398, all that the manual calls latched, which stand behind each
+-- other; and the summary byte is worked out anew. Assumes nothing.
+use mathlib.Core.List.{List}
+use Prim.Native.Nat.{ℕ}
+use lib.ListN.{replicate}
+use Rattle.wire.specs.Splice.{splice}
+use Rattle.table.specs.Places.{latched-status}
+use Rattle.sample.specs.Faults.{with-summary}
+
+unfoldable pub exceptions-cleared : List ℕ → List ℕ
+exceptions-cleared values = with-summary (splice values latched-status (replicate 33 0))

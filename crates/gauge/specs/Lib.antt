@@ -1,0 +1,9 @@
+pub mod Gates
+pub mod Words
+pub mod Lock
+pub mod Exceptions
+pub mod Memory
+pub mod PowerUp
+pub mod Commands
+pub mod Endings
+pub mod Whole

@@ -1,0 +1,111 @@
+// A whole write of a row: lock, limits, and what an accepted write does.
+use crate::exception;
+use crate::lock;
+use crate::power;
+use crate::word;
+use crate::word::Command;
+use table::field;
+ghost use mathlib.Core.Path.{_≡_};
+ghost use Prim.Native.Nat.{_<_};
+ghost use lib.ListN.{length};
+ghost use Rattle.table.specs.Rows.{row-count, at-row};
+ghost use Rattle.gauge.specs.Memory.{memory-of};
+ghost use Rattle.gauge.specs.Commands.{status-by, done, obeyed};
+ghost use Rattle.gauge.specs.Endings.{left, left-by};
+ghost use Rattle.gauge.specs.Whole.{first-code, last-checks, effect, commit-row};
+
+// How a write ends; after a restart the lines' transfers are dropped and the trips are off.
+pub enum Ending {
+    Accepted,
+    Restarted,
+    Refused(u32),
+}
+
+fn status_by(right: bool) -> u8
+    ensures { λ r. ⌜ r ≡ status-by right ⌝ }
+{
+    if right { 0 } else { 2 }
+}
+
+// A command whose word was right.
+fn carry_out(values: &mut [u8], block: &mut [u8], command: Command) -> Ending
+    requires { ⌜ (length (now values) ≡ 1024) × (length (now block) ≡ 512) ⌝ }
+    ensures { λ r. ⌜ left r (now (values .exit)) (now (block .exit)) ≡ left-by (memory-of (now (values .entry)) (now (block .entry))) (done command (memory-of (now (values .entry)) (now (block .entry)))) ⌝ }
+{
+    match command {
+        Command::DeviceReset => {
+            power::fill(values, block);
+            Ending::Restarted
+        }
+        Command::ExceptionReset => {
+            exception::clear_latched(values);
+            word::set_status(values, Command::ExceptionReset, 0);
+            Ending::Accepted
+        }
+        Command::StoreParameters => {
+            let code = status_by(block::store(values, block));
+            word::set_status(values, Command::StoreParameters, code);
+            Ending::Accepted
+        }
+        Command::LoadParameters => {
+            let code = status_by(block::load(block, values));
+            word::set_status(values, Command::LoadParameters, code);
+            Ending::Accepted
+        }
+    }
+}
+
+// A command word is written.
+fn obey(values: &mut [u8], block: &mut [u8], command: Command, bytes: &[u8]) -> Ending
+    requires { ⌜ (length (now values) ≡ 1024) × (length (now block) ≡ 512) ⌝ }
+    ensures { λ r. ⌜ left r (now (values .exit)) (now (block .exit)) ≡ left-by (memory-of (now (values .entry)) (now (block .entry))) (obeyed command (now (bytes .entry)) (memory-of (now (values .entry)) (now (block .entry)))) ⌝ }
+{
+    if word::is_word(command, bytes) {
+        return carry_out(values, block, command);
+    }
+    word::set_status(values, command, 2);
+    Ending::Accepted
+}
+
+// The code of the first of the last checks that refuses, 0 where none does.
+fn refusal(values: &[u8], row: usize, bytes: &[u8]) -> u32
+    requires { ⌜ (length (now values) ≡ 1024) × (row < row-count) × (length (now bytes) ≡ at-row row .len) ⌝ }
+    ensures { λ r. ⌜ r ≡ first-code (last-checks (at-row row) (now (values .entry)) (now (bytes .entry))) ⌝ }
+{
+    if lock::refuses(values, row) {
+        return 0x08000022;
+    }
+    if field::kind_of(row) == 7 {
+        return entry::limits::code_of(card::judge(bytes));
+    }
+    entry::limits::code_of(entry::judge(row, bytes))
+}
+
+// What an accepted write does.
+fn put(values: &mut [u8], block: &mut [u8], row: usize, bytes: &[u8]) -> Ending
+    requires { ⌜ (length (now values) ≡ 1024) × (length (now block) ≡ 512) × (row < row-count) × (length (now bytes) ≡ at-row row .len) ⌝ }
+    ensures { λ r. ⌜ left r (now (values .exit)) (now (block .exit)) ≡ left-by (memory-of (now (values .entry)) (now (block .entry))) (effect (at-row row) (now (bytes .entry)) (memory-of (now (values .entry)) (now (block .entry)))) ⌝ }
+{
+    let kind = field::kind_of(row);
+    if kind == 7 {
+        card::write(values, bytes);
+        return Ending::Accepted;
+    }
+    if kind == 8 {
+        return obey(values, block, word::command_at(field::index_of(row)), bytes);
+    }
+    entry::store_entry(values, row, bytes);
+    Ending::Accepted
+}
+
+// The last checks, then the write.
+pub fn commit(values: &mut [u8], block: &mut [u8], row: usize, bytes: &[u8]) -> Ending
+    requires { ⌜ (length (now values) ≡ 1024) × (length (now block) ≡ 512) × (row < row-count) × (length (now bytes) ≡ at-row row .len) ⌝ }
+    ensures { λ r. ⌜ left r (now (values .exit)) (now (block .exit)) ≡ left-by (memory-of (now (values .entry)) (now (block .entry))) (commit-row (at-row row) (now (bytes .entry)) (memory-of (now (values .entry)) (now (block .entry)))) ⌝ }
+{
+    let code = refusal(values, row, bytes);
+    if code != 0 {
+        return Ending::Refused(code);
+    }
+    put(values, block, row, bytes)
+}

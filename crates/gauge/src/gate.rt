@@ -1,0 +1,41 @@
+// The table's checks of a key: index, subindex, access.
+use table::Found;
+use table::field;
+ghost use mathlib.Core.Path.{_≡_};
+ghost use Rattle.table.specs.Find.{find-row};
+ghost use Rattle.gauge.specs.Gates.{gate, read-gate, write-gate};
+
+// The row that a key opens, or the code that refuses it.
+pub enum Gate {
+    Open(usize),
+    Shut(u32),
+}
+
+// The way to a row, where rows of one access are barred.
+fn way(index: u16, sub: u8, barred: u8, code: u32) -> Gate
+    ensures { λ r. ⌜ r ≡ gate barred code (find-row index sub) ⌝ }
+{
+    let found = table::find(index, sub);
+    match found {
+        Found::At(row) => {
+            if field::access_of(row) == barred {
+                return Gate::Shut(code);
+            }
+            Gate::Open(row)
+        }
+        Found::NoIndex => Gate::Shut(0x06020000),
+        Found::NoSub => Gate::Shut(0x06090011),
+    }
+}
+
+pub fn to_read(index: u16, sub: u8) -> Gate
+    ensures { λ r. ⌜ r ≡ read-gate (find-row index sub) ⌝ }
+{
+    way(index, sub, 2, 0x06010001)
+}
+
+pub fn to_write(index: u16, sub: u8) -> Gate
+    ensures { λ r. ⌜ r ≡ write-gate (find-row index sub) ⌝ }
+{
+    way(index, sub, 1, 0x06010002)
+}

@@ -1,0 +1,24 @@
+// A whole read of a row.
+use crate::word;
+use table::field;
+ghost use mathlib.Core.Path.{_≡_};
+ghost use Prim.Native.Nat.{_<_};
+ghost use lib.ListN.{length, replicate};
+ghost use Rattle.wire.specs.Splice.{splice};
+ghost use Rattle.table.specs.Rows.{row-count, at-row};
+ghost use Rattle.gauge.specs.Whole.{value-of};
+
+// The entry's value as it is now, with zeros behind it.
+pub fn value_of(values: &[u8], row: usize) -> [u8; 64]
+    requires { ⌜ (length (now values) ≡ 1024) × (row < row-count) ⌝ }
+    ensures { λ r. ⌜ r ≡ splice (replicate 64 0) 0 (value-of (at-row row) (now (values .entry))) ⌝ }
+{
+    let kind = field::kind_of(row);
+    if kind == 7 {
+        return card::card_of(values);
+    }
+    if kind == 8 {
+        return word::reading(word::command_at(field::index_of(row)));
+    }
+    entry::read_entry(values, row)
+}
