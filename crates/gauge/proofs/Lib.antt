@@ -1,3 +1,5 @@
 pub mod GateLaws
 pub mod SameBytes
 pub mod CommitLaws
+pub mod InOrder
+pub mod GaugeLaws
