@@ -6,3 +6,4 @@ pub mod CoatingShop
 pub mod Lengths
 pub mod Bag552
 pub mod StateBytes
+pub mod Calls

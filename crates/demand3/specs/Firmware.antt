@@ -16,6 +16,8 @@ use Rattle.order.specs.Bytes.{heard, fed, reads, client}
 use Rattle.gauge.specs.Memory.{Store, memory-of, all-off}
 use Rattle.gauge.specs.PowerUp.{fresh-values}
 use Rattle.sdo.specs.Lines.{gauge, eight, Line, tool, service, twoLines, eightCodec, BoardCall}
+use Rattle.sdo.specs.Records.{RecordBoard}
+use Rattle.board.specs.State.{record-at}
 use Rattle.board.specs.Gauge.{Sample, bag552}
 use Rattle.board.specs.Calls.{Called, Fed, Shown, Powered, store-of, message-call, power-up-call, sample-call, image-call}
 
@@ -103,6 +105,10 @@ unfoldable pub events : List (Exported × Back) → List Answered
 events [] = []
 events (p ∷ ps) = with-event (event-of (p .0) (p .1)) (events ps)
 
+-- the messages and samples among the calls
+abbrev pub calls-in : List (Exported × Back) → List (BoardCall bag552)
+calls-in ps = map (λ (p : Answered). p .0) (events ps)
+
 -- the finished operations, in their order, each with what it got
 unfoldable pub observed : List (Exported × Back) → List (Done (gauge bag552))
 observed ps = client (gauge bag552) (twoLines idle) (λ l. eight) (λ l. eightCodec) (events ps)
@@ -116,6 +122,10 @@ powered-store block = record { memory = memory-of (fresh-values block) block; tr
 -- values, saved block and trip states at the end of a run
 abbrev pub store-in : Arrays → Store
 store-in a = store-of (a .values) (a .block) (a .state)
+
+-- the board that the arrays stand for
+abbrev pub board-in : Arrays → RecordBoard bag552
+board-in a = record { store = store-in a; records = record { onTool = record-at (a .state) 0; onService = record-at (a .state) 96 } }
 
 -- ---- DEMAND 3, of the calls that C firmware makes
 
