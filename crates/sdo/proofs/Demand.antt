@@ -2,6 +2,7 @@
 use Prim.Native.Nat.{ℕ, _+_, _/_, _≤_, _<_}
 use native.Mathlib.Omega.{arith}
 use mathlib.Core.Path.{_≡_, refl, ap, _∙_}
+use mathlib.Core.Logic.{_⊎_}
 use mathlib.Core.Bool.{Bool, true, false, cond, not, Bool·beq, _&&_, and-false}
 use mathlib.Core.List.{List, [], _++_, map}
 use mathlib.Core.Option.{Option, none, some}
@@ -16,8 +17,10 @@ use Rattle.order.specs.Promise.{Ends}
 use Rattle.order.specs.Bytes.{heard, meant, call, Clear}
 use Rattle.sdo.specs.Eight.{askOf, Code, Carried}
 use Rattle.sdo.specs.Lines.{Entries, gauge, Sound, short, eight, Line, atLine, twoLines, eightCodec, BoardCall, Demand3, TwoBoard, Parts, partsAsked, got}
+use Rattle.sdo.specs.Records.{view, speak}
 use Rattle.sdo.specs.declared.Key.{Key}
-use Rattle.sdo.proofs.RoundTrip.{round}
+use Rattle.sdo.specs.declared.Transfer.{Transfer}
+use Rattle.sdo.proofs.RoundTrip.{round, answer-eight}
 use Rattle.order.proofs.OnBytes.{serial-bytes, decoded}
 use Rattle.order.proofs.Serial.{own-line}
 use Rattle.order.proofs.Count.{ends}
@@ -132,6 +135,11 @@ module _ (E : Entries) (S : Sound E) where
       carries-cond (Bool·beq t u) (takePart P g k low high (sent ++ bytes) (not t) last (partTaken t)) (over P g (wrongToggle k)) (λ _. carries-part g k low high (sent ++ bytes) (not t) last (partTaken t) tt) tt
   carries g x giveUp = tt
   carries g x unknown = tt
+
+  -- the bytes of every answer are eight, or none
+  pub spoken-eight : (g : E .Store) (t : Transfer) (m : List ℕ) → ((speak E g t m) .bytes ≡ []) ⊎ (length ((speak E g t m) .bytes) ≡ 8)
+  unfolding speak
+  spoken-eight g t m = answer-eight _ (carries g (view t) (askOf m))
 
   -- a client reads in every answer what the board meant
   clear : Clear P (twoLines idle) (λ l. eight) (λ l. eightCodec)

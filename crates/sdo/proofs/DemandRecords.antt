@@ -8,8 +8,8 @@ use mathlib.Core.List.{List, [], _∷_, _++_, map}
 use mathlib.Core.Option.{Option, none, some}
 use lib.Dec.{T, ltb, leb, nleb→lt, nltb→le}
 use lib.ListN.{length}
-use Rattle.order.specs.Talk.{Request, openRead, nextPart, expedited, openWrite, sendPart, giveUp, unknown, Answer, writeOpened, partTaken, wrongToggle, Read, value, denied, Sizes, sizes, closed, Outcome, stored, restarted, declined, Pending, idle, reading, writing}
-use Rattle.order.specs.Gauge.{Gauge, tooLong, tooShort, narrow, say, judged, allowed, writeWhole}
+use Rattle.order.specs.Talk.{Said, announced, unsaid, own, Request, openRead, nextPart, expedited, openWrite, sendPart, giveUp, unknown, Answer, writeOpened, partTaken, wrongToggle, Read, value, denied, Sizes, sizes, closed, Outcome, stored, restarted, declined, Pending, idle, reading, writing}
+use Rattle.order.specs.Gauge.{Gauge, tooLong, tooShort, narrow, counted, say, judged, judgedBy, allowed, writeWhole}
 use Rattle.order.specs.Serve.{After, kept, wiped, left, Served, over, readOpening, givePart, conclude, takePart, writeOpening, serve, leave, step}
 use Rattle.order.specs.Observe.{follow}
 use Rattle.order.specs.Promise.{Spares, start, Calm}
@@ -19,8 +19,8 @@ use Rattle.sdo.specs.declared.Direction.the-variants.{Reads, Writes}
 use Rattle.sdo.specs.declared.Transfer.{Transfer}
 use Rattle.sdo.specs.Eight.{askOf}
 use Rattle.sdo.specs.Lines.{Entries, gauge, Sound, short, eight, Line, tool, service, Both, atLine, setLine, both, twoLines, eightCodec, BoardCall, TwoBoard, Demand3, Parts, partsAsked, got}
-use Rattle.sdo.specs.Records.{allZero, counts, rowNumber, base, view, lay, is-wiped, speak, RecordBoard, recordCall, recordTalk, recordEnd, recordStart, RowOf, Rows, NoReset, RecordParts, recordGot, Demand3Records}
-use Rattle.sdo.proofs.RecordLaws.{Fits, Valid, view-zero, view-lay, Whole, valid-view, whole-lay, whole-base, lay-served, row-fits}
+use Rattle.sdo.specs.Records.{allZero, counts, rowNumber, base, view, lay, is-wiped, speak, RecordBoard, recordCall, recordTalk, recordEnd, recordStart, RowOf, GoodAfter, Rows, NoReset, RecordParts, recordGot, Demand3Records}
+use Rattle.sdo.proofs.RecordLaws.{Fits, Valid, view-zero, view-lay, Whole, valid-view, whole-lay, whole-base, lay-served, row-fits, fits-row}
 use Rattle.sdo.proofs.Demand.{demand3, finished-after, not-finished-before}
 
 module _ (E : Entries) where
@@ -38,12 +38,12 @@ module _ (E : Entries) where
     carried-in true n = omega arith
     carried-in false n = omega arith
 
-    valid-read-opening : (g : E .Store) (k : Key) (r : Read) → E .readWhole g k ≡ r → Valid (rowNumber k) (left ((readOpening P eight g k r) .after))
+    valid-read-opening : (g : E .Store) (k : Key) (r : Read) → R .Good g → E .readWhole g k ≡ r → Valid (rowNumber k) (left ((readOpening P eight g k r) .after))
     unfolding eight readOpening
-    valid-read-opening g k (value bytes) e =
+    valid-read-opening g k (value bytes) ok e =
         valid-cond (rowNumber k) (short (length bytes)) _ _ tt
-        (λ _. row-fits Reads k (length bytes) (cond (short (length bytes)) (length bytes) 0) (R .read-row g k bytes e) (carried-in (short (length bytes)) (length bytes)))
-    valid-read-opening g k (denied c) e = tt
+        (λ _. row-fits Reads k (length bytes) (cond (short (length bytes)) (length bytes) 0) (R .read-row g k bytes ok e) (carried-in (short (length bytes)) (length bytes)))
+    valid-read-opening g k (denied c) ok e = tt
 
     valid-conclude : (row : ℕ) (g : E .Store) (k : Key) (y : Answer Key) (r : Outcome (E .Store)) → Valid row (left ((conclude P g k y r) .after))
     unfolding conclude
@@ -64,10 +64,11 @@ module _ (E : Entries) where
     SizedFor k (sizes low high) = (low ≡ high) × RowOf Writes k high
     SizedFor k (closed c) = Unit {0}
 
-    sized : (k : Key) (n : Option ℕ) (z : Sizes) → E .rowOf k ≡ z → SizedFor k (narrow z (say n))
+    sized : (k : Key) (s : Said) (z : Sizes) → E .rowOf k ≡ z → SizedFor k (narrow z s)
     unfolding SizedFor narrow
-    sized k none (sizes low high) e = R .write-row k low high e
-    sized k (some n) (sizes low high) e = go (ltb high n) (ltb n low) (nltb→le high n) (nltb→le n low)
+    sized k unsaid (sizes low high) e = R .write-row k low high e
+    sized k own (sizes low high) e = (refl, R .write-row k low high e .1)
+    sized k (announced n) (sizes low high) e = go (ltb high n) (ltb n low) (nltb→le high n) (nltb→le n low)
       where
         w : (low ≡ high) × RowOf Writes k high
         w = R .write-row k low high e
@@ -80,8 +81,7 @@ module _ (E : Entries) where
             let b : low ≤ n = q tt in
             let m : n ≡ high = omega (arith, w .0) in
             (refl, rw m (w .1))
-    sized k none (closed c) e = tt
-    sized k (some n) (closed c) e = tt
+    sized k s (closed c) e = tt
 
     valid-write-opening : (g : E .Store) (k : Key) (bytes : List ℕ) (z : Sizes) → SizedFor k z → Valid (rowNumber k) (left ((writeOpening P g k bytes z) .after))
     unfolding SizedFor writeOpening
@@ -89,32 +89,97 @@ module _ (E : Entries) where
         valid-part (rowNumber k) g k low high 0 bytes false false (writeOpened k) (h .0) (row-fits Writes k high 0 (h .1) (omega arith))
     valid-write-opening g k bytes (closed c) h = tt
 
-    valid-serve : (g : E .Store) (t : Transfer) (x : Pending Key) (a : Request Key) → Valid (t .row) x → Valid ((base t a) .row) (left ((serve P eight g x a) .after))
+    valid-serve : (g : E .Store) (t : Transfer) (x : Pending Key) (a : Request Key) → R .Good g → Valid (t .row) x → Valid ((base t a) .row) (left ((serve P eight g x a) .after))
     unfolding serve eight base
-    valid-serve g t x (openRead k) v = valid-read-opening g k (E .readWhole g k) refl
-    valid-serve g t idle (nextPart u) v = tt
-    valid-serve g t (reading k bytes place u′) (nextPart u) v =
+    valid-serve g t x (openRead k) ok v = valid-read-opening g k (E .readWhole g k) ok refl
+    valid-serve g t idle (nextPart u) ok v = tt
+    valid-serve g t (reading k bytes place u′) (nextPart u) ok v =
         valid-cond (t .row) (Bool·beq u′ u) (givePart P eight g k bytes place u′) (over P g (wrongToggle k))
         (valid-cond (t .row) (leb (length bytes) (place + 7)) _ _ tt
         (λ h.
         let q : place + 7 < length bytes = nleb→lt (length bytes) (place + 7) h in
         record { there = v .there; key-is = v .key-is; allowed = v .allowed; length-is = v .length-is; place-in = omega arith }))
         (λ _. tt)
-    valid-serve g t (writing k low high sent u′) (nextPart u) v = tt
-    valid-serve g t x (expedited k s bytes) v = valid-conclude 0 g k (writeOpened k) (writeWhole P g k s bytes)
-    valid-serve g t x (openWrite k n bytes) v = valid-write-opening g k bytes (allowed P k (say n)) (sized k n (E .rowOf k) refl)
-    valid-serve g t idle (sendPart u bytes last) v = tt
-    valid-serve g t (reading k held place u′) (sendPart u bytes last) v = tt
-    valid-serve g t (writing k low high sent u′) (sendPart u bytes last) v =
+    valid-serve g t (writing k low high sent u′) (nextPart u) ok v = tt
+    valid-serve g t x (expedited k s bytes) ok v = valid-conclude 0 g k (writeOpened k) (writeWhole P g k s bytes)
+    valid-serve g t x (openWrite k n bytes) ok v = valid-write-opening g k bytes (allowed P k (say n)) (sized k (say n) (E .rowOf k) refl)
+    valid-serve g t idle (sendPart u bytes last) ok v = tt
+    valid-serve g t (reading k held place u′) (sendPart u bytes last) ok v = tt
+    valid-serve g t (writing k low high sent u′) (sendPart u bytes last) ok v =
         valid-cond (t .row) (Bool·beq u′ u) (takePart P g k low high (sent ++ bytes) (not u′) last (partTaken u′)) (over P g (wrongToggle k))
         (valid-part (t .row) g k low high (length sent) (sent ++ bytes) (not u′) last (partTaken u′) (v .0) (v .1)) (λ _. tt)
-    valid-serve g t x giveUp v = tt
-    valid-serve g t x unknown v = tt
+    valid-serve g t x giveUp ok v = tt
+    valid-serve g t x unknown ok v = tt
+
+    -- ---- a message leaves a good store
+
+    good-cond : (d : Bool) (s s′ : Served P) → R .Good (s .store) → R .Good (s′ .store) → R .Good ((cond d s s′) .store)
+    good-cond true s s′ h h′ = h
+    good-cond false s s′ h h′ = h′
+
+    good-judged : (g : E .Store) (k : Key) (low high : ℕ) (bytes : List ℕ) → R .Good g → low ≡ high → RowOf Writes k high → GoodAfter E (R .Good) (judged P g k low high bytes)
+    unfolding judged
+    good-judged g k low high bytes ok e r = go (ltb high (length bytes)) (ltb (length bytes) low) (nltb→le high (length bytes)) (nltb→le (length bytes) low)
+      where
+        go : (d c : Bool) → (T (not d) → length bytes ≤ high) → (T (not c) → low ≤ length bytes)
+            → GoodAfter E (R .Good) (cond d (declined tooLong) (cond c (declined tooShort) (E .commit g k bytes)))
+        go true c p q = tt
+        go false true p q = tt
+        go false false p q =
+            let a : length bytes ≤ high = p tt in
+            let b : low ≤ length bytes = q tt in
+            let m : length bytes ≡ high = omega (arith, e) in
+            R .commit-good g k bytes ok (rw m r)
+
+    good-conclude : (g : E .Store) (k : Key) (y : Answer Key) (r : Outcome (E .Store)) → R .Good g → GoodAfter E (R .Good) r → R .Good ((conclude P g k y r) .store)
+    unfolding conclude
+    good-conclude g k y (stored g′) ok h = h
+    good-conclude g k y (restarted g′) ok h = h
+    good-conclude g k y (declined c) ok h = ok
+
+    good-part : (g : E .Store) (k : Key) (low high : ℕ) (all : List ℕ) (t last : Bool) (y : Answer Key) → R .Good g → low ≡ high → RowOf Writes k high
+        → R .Good ((takePart P g k low high all t last y) .store)
+    unfolding takePart
+    good-part g k low high all t true y ok e r = good-conclude g k y (judged P g k low high all) ok (good-judged g k low high all ok e r)
+    good-part g k low high all t false y ok e r = good-cond (ltb high (length all)) _ _ ok ok
+
+    good-whole : (g : E .Store) (k : Key) (s : Said) (bytes : List ℕ) (z : Sizes) → R .Good g → SizedFor k z → GoodAfter E (R .Good) (judgedBy P g k s bytes z)
+    unfolding SizedFor judgedBy
+    good-whole g k s bytes (sizes low high) ok h = good-judged g k low high (counted s high bytes) ok (h .0) (h .1)
+    good-whole g k s bytes (closed c) ok h = tt
+
+    good-write-opening : (g : E .Store) (k : Key) (bytes : List ℕ) (z : Sizes) → R .Good g → SizedFor k z → R .Good ((writeOpening P g k bytes z) .store)
+    unfolding SizedFor writeOpening
+    good-write-opening g k bytes (sizes low high) ok h = good-part g k low high bytes false false (writeOpened k) ok (h .0) (h .1)
+    good-write-opening g k bytes (closed c) ok h = ok
+
+    good-read-opening : (g : E .Store) (k : Key) (r : Read) → R .Good g → R .Good ((readOpening P eight g k r) .store)
+    unfolding eight readOpening
+    good-read-opening g k (value bytes) ok = good-cond (short (length bytes)) _ _ ok ok
+    good-read-opening g k (denied c) ok = ok
+
+    good-serve : (g : E .Store) (t : Transfer) (x : Pending Key) (a : Request Key) → R .Good g → Valid (t .row) x → R .Good ((serve P eight g x a) .store)
+    unfolding serve eight writeWhole
+    good-serve g t x (openRead k) ok v = good-read-opening g k (E .readWhole g k) ok
+    good-serve g t idle (nextPart u) ok v = ok
+    good-serve g t (reading k bytes place u′) (nextPart u) ok v =
+        good-cond (Bool·beq u′ u) (givePart P eight g k bytes place u′) (over P g (wrongToggle k)) (good-cond (leb (length bytes) (place + 7)) _ _ ok ok) ok
+    good-serve g t (writing k low high sent u′) (nextPart u) ok v = ok
+    good-serve g t x (expedited k s bytes) ok v =
+        good-conclude g k (writeOpened k) (writeWhole P g k s bytes) ok (good-whole g k s bytes (allowed P k s) ok (sized k s (E .rowOf k) refl))
+    good-serve g t x (openWrite k n bytes) ok v = good-write-opening g k bytes (allowed P k (say n)) ok (sized k (say n) (E .rowOf k) refl)
+    good-serve g t idle (sendPart u bytes last) ok v = ok
+    good-serve g t (reading k held place u′) (sendPart u bytes last) ok v = ok
+    good-serve g t (writing k low high sent u′) (sendPart u bytes last) ok v =
+        good-cond (Bool·beq u′ u) (takePart P g k low high (sent ++ bytes) (not u′) last (partTaken u′)) (over P g (wrongToggle k))
+        (good-part g k low high (sent ++ bytes) (not u′) last (partTaken u′) ok (v .0) (fits-row Writes (t .row) k high (length sent) (v .1))) ok
+    good-serve g t x giveUp ok v = ok
+    good-serve g t x unknown ok v = ok
 
     -- THEOREM: every message leaves its line's record a transfer that counts, or all zero; a record that counts as none is so cleared
-    module _ (g : E .Store) (t : Transfer) (m : List ℕ) (w : Whole t) where
+    module _ (g : E .Store) (ok : R .Good g) (t : Transfer) (m : List ℕ) (w : Whole t) where
       leaves : Valid ((base t (askOf m)) .row) (left ((serve P eight g (view t) (askOf m)) .after))
-      leaves = valid-serve g t (view t) (askOf m) (valid-view t w)
+      leaves = valid-serve g t (view t) (askOf m) ok (valid-view t w)
 
       pub next-served : (counts ((speak E g t m) .next) ≡ true) ⊎ ((speak E g t m) .next ≡ allZero)
       unfolding speak
@@ -129,8 +194,9 @@ module _ (E : Entries) where
     abbrev seenAs : RecordBoard E → TwoBoard E
     seenAs b = record { store = b .store; lines = record { onTool = view (b .records .onTool); onService = view (b .records .onService) } }
 
-    -- the records' arrays are whole
+    -- the store is good and the records' arrays are whole
     pub record WholeBoard (b : RecordBoard E) : Type 0 where
+      pub good : R .Good (b .store)
       pub at-each : (l : Line) → Whole (atLine (b .records) l)
 
     at-seen : (b : RecordBoard E) (l : Line) → atLine ((seenAs b) .lines) l ≡ view (atLine (b .records) l)
@@ -176,12 +242,16 @@ module _ (E : Entries) where
 
     pub follows : (b : RecordBoard E) (c : BoardCall E) → WholeBoard b → Follows b c
     unfolding recordCall call step speak
-    follows b (fed s) w = record { same-bytes = refl; same-board = refl; whole = record { at-each = w .at-each } }
+    follows b (fed s) w = record { same-bytes = refl; same-board = refl; whole = record { good = R .sample-good (b .store) s (w .good); at-each = w .at-each } }
     follows b (heard l m) w =
         record {
           same-bytes = rw (at-seen b l);
           same-board = rw (at-seen b l) (ap (λ (ls : Both (Pending Key)). record { store = s .store; lines = ls }) (seen-leave (b .records) l t′ (s .after) v));
-          whole = record { at-each = λ n. whole-leave (b .records) l n t′ (s .after) (whole-base t (askOf m) (w .at-each l)) v (w .at-each n) };
+          whole =
+              record {
+                good = good-serve (b .store) t (view t) (askOf m) (w .good) (valid-view t (w .at-each l));
+                at-each = λ n. whole-leave (b .records) l n t′ (s .after) (whole-base t (askOf m) (w .at-each l)) v (w .at-each n);
+              };
         }
       where
         t : Transfer
@@ -194,7 +264,7 @@ module _ (E : Entries) where
         s = serve P eight (b .store) (view t) (askOf m)
 
         v : Valid (t′ .row) (left (s .after))
-        v = valid-serve (b .store) t (view t) (askOf m) (valid-view t (w .at-each l))
+        v = valid-serve (b .store) t (view t) (askOf m) (w .good) (valid-view t (w .at-each l))
 
     pub same-talk : (cs : List (BoardCall E)) (b : RecordBoard E) → WholeBoard b → recordTalk E b cs ≡ talk P (twoLines idle) (λ l. eight) (λ l. eightCodec) (seenAs b) cs
     unfolding recordTalk talk
@@ -215,12 +285,12 @@ module _ (E : Entries) where
     seen-start : (g : E .Store) → seenAs (recordStart E g) ≡ start P (twoLines idle) (λ l. eight) g
     seen-start g = ap (λ (x : Pending Key). record { store = g; lines = both x }) view-zero
 
-    whole-start : (g : E .Store) → WholeBoard (recordStart E g)
-    whole-start g = record { at-each = whole-zero }
+    pub whole-start : (g : E .Store) → R .Good g → WholeBoard (recordStart E g)
+    whole-start g ok = record { good = ok; at-each = whole-zero }
 
-    -- THEOREM: demand 3, of the board with its records, for every list of calls from power-up
-    pub demand3-records : Sound E → (g : E .Store) (cs : List (BoardCall E)) → Demand3Records E g cs
-    demand3-records S g cs =
+    -- THEOREM: demand 3, of the board with its records, for every list of calls from power-up, or from any good store with no transfer under way
+    pub demand3-records : Sound E → (g : E .Store) → R .Good g → (cs : List (BoardCall E)) → Demand3Records E g cs
+    demand3-records S g ok cs =
         record {
           same-results = rw talked (d .same-results);
           same-end = rw talked (d .same-end ∙ sym (ap (λ (b : TwoBoard E). b .store) ended));
@@ -230,10 +300,10 @@ module _ (E : Entries) where
         d = demand3 E S g cs
 
         talked : recordTalk E (recordStart E g) cs ≡ talk P (twoLines idle) (λ l. eight) (λ l. eightCodec) (start P (twoLines idle) (λ l. eight) g) cs
-        talked = same-talk cs (recordStart E g) (whole-start g) ∙ ap (λ (b : TwoBoard E). talk P (twoLines idle) (λ l. eight) (λ l. eightCodec) b cs) (seen-start g)
+        talked = same-talk cs (recordStart E g) (whole-start g ok) ∙ ap (λ (b : TwoBoard E). talk P (twoLines idle) (λ l. eight) (λ l. eightCodec) b cs) (seen-start g)
 
         ended : seenAs (recordEnd E (recordStart E g) cs) ≡ afterAll P (twoLines idle) (λ l. eight) (λ l. eightCodec) (start P (twoLines idle) (λ l. eight) g) cs
-        ended = same-end cs (recordStart E g) (whole-start g) ∙ ap (λ (b : TwoBoard E). afterAll P (twoLines idle) (λ l. eight) (λ l. eightCodec) b cs) (seen-start g)
+        ended = same-end cs (recordStart E g) (whole-start g ok) ∙ ap (λ (b : TwoBoard E). afterAll P (twoLines idle) (λ l. eight) (λ l. eightCodec) b cs) (seen-start g)
 
     -- ---- the count of parts
 

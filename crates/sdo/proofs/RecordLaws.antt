@@ -13,7 +13,7 @@ use Rattle.order.specs.Talk.{Request, openRead, nextPart, expedited, openWrite,
 use Rattle.table.specs.Rows.{row-count, at-row}
 use Rattle.table.specs.Find.{find-row}
 use Rattle.table.specs.declared.Found.the-variants.{At}
-use Rattle.table.proofs.Table.{row-rule, find-at}
+use Rattle.table.proofs.Table.{row-rule, find-at, row-found}
 use Rattle.sdo.specs.declared.Key.{Key}
 use Rattle.sdo.specs.declared.Direction.{Direction}
 use Rattle.sdo.specs.declared.Direction.the-variants.{Neither, Reads, Writes}
@@ -67,6 +67,16 @@ row-fits d k n place r h =
       allowed = r .allowed;
       length-is = r .length-is;
       place-in = h;
+    })
+
+pub fits-row : (d : Direction) (row : ℕ) (k : Key) (n place : ℕ) → Fits d row k n place → RowOf d k n
+fits-row d row k n place f =
+    rw (f .key-is)
+    (record {
+      row = row;
+      found = row-found (at-row row .index) (at-row row .sub) row (record { there = f .there; index-is = refl; sub-is = refl });
+      allowed = f .allowed;
+      length-is = f .length-is;
     })
 
 -- a transfer that a record with this row can hold

@@ -2,10 +2,11 @@
 use Prim.Native.Nat.{ℕ, _+_, _-_, _*_, _/_, _%_, _≤_, _<_}
 use native.Mathlib.Omega.{arith}
 use mathlib.Core.Path.{_≡_, refl, ap, _∙_}
+use mathlib.Core.Logic.{_⊎_, inl, inr}
 use mathlib.Core.Bool.{Bool, true, false}
 use mathlib.Core.List.{List, [], _∷_, _++_}
 use lib.Dec.{eqb}
-use lib.ListN.{length, take, replicate}
+use lib.ListN.{length, take, replicate, length-append, length-replicate}
 use lib.Seq.{take-at}
 use Rattle.wire.specs.Little.{little, fromLittle, number}
 use Rattle.wire.proofs.LittleLaws.{from-little}
@@ -71,3 +72,16 @@ round (refused k c) h =
 round (wrongToggle k) h = rw (index-back (k .index), number-back 0x80 (k .index % 256) (k .index / 256) (k .sub) toggleCode (omega arith))
 round noTransfer h = rw (number-back 0x80 0 0 0 transferCode (omega arith))
 round silent h = refl
+
+-- an answer is eight bytes, or none
+pub answer-eight : (t : Answer Key) → Carried t → (answerOf t ≡ []) ⊎ (length (answerOf t) ≡ 8)
+unfolding answerOf little
+answer-eight (opened k n bytes true) h = inr (simp (length-append, length-replicate) (omega (arith, h .2)))
+answer-eight (opened k n bytes false) h = inr refl
+answer-eight (partGiven t bytes last) h = inr (simp (length-append, length-replicate) (omega (arith, h)))
+answer-eight (writeOpened k) h = inr refl
+answer-eight (partTaken t) h = inr refl
+answer-eight (refused k c) h = inr refl
+answer-eight (wrongToggle k) h = inr refl
+answer-eight noTransfer h = inr refl
+answer-eight silent h = inl refl

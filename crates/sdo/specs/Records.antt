@@ -7,7 +7,7 @@ use mathlib.Core.List.{List, [], _∷_, _++_, map}
 use mathlib.Core.Option.{Option}
 use lib.Dec.{eqb, leb, ltb}
 use lib.ListN.{length, take, drop, replicate}
-use Rattle.order.specs.Talk.{Request, openRead, nextPart, expedited, openWrite, sendPart, giveUp, unknown, value, sizes, Pending, idle, reading, writing}
+use Rattle.order.specs.Talk.{Request, openRead, nextPart, expedited, openWrite, sendPart, giveUp, unknown, value, sizes, Outcome, stored, restarted, declined, Pending, idle, reading, writing}
 use Rattle.order.specs.Gauge.{results, endOf}
 use Rattle.order.specs.Serve.{After, kept, wiped, left, Served, serve}
 use Rattle.order.specs.Observe.{Done, follow}
@@ -138,10 +138,20 @@ module _ (E : Entries) where
   abbrev pub recordStart : E .Store → RecordBoard
   recordStart g = record { store = g; records = both allZero }
 
-  -- what is asked of the entries: a value that is read, and an entry that may be written, have a row that allows it and the row's length
-  pub record Rows : Type 0 where
-    pub read-row : (g : E .Store) (k : Key) (bytes : List ℕ) → E .readWhole g k ≡ value bytes → RowOf Reads k (length bytes)
+  -- the store that an accepted write leaves is one of these
+  abbrev pub GoodAfter : (E .Store → Type 0) → Outcome (E .Store) → Type 0
+  GoodAfter Good (stored g) = Good g
+  GoodAfter Good (restarted g) = Good g
+  GoodAfter Good (declined c) = Unit {0}
+
+  -- what is asked of the entries: a value that is read, and an entry that may be written, have a row that allows it and the row's length.
+  -- `Good` is what is asked of the store (its bytes are as many as the table has places for); whole writes of the row's length and samples keep it
+  pub record Rows : Type 1 where
+    pub Good : E .Store → Type 0
+    pub read-row : (g : E .Store) (k : Key) (bytes : List ℕ) → Good g → E .readWhole g k ≡ value bytes → RowOf Reads k (length bytes)
     pub write-row : (k : Key) (low high : ℕ) → E .rowOf k ≡ sizes low high → (low ≡ high) × RowOf Writes k high
+    pub commit-good : (g : E .Store) (k : Key) (bytes : List ℕ) → Good g → RowOf Writes k (length bytes) → GoodAfter Good (E .commit g k bytes)
+    pub sample-good : (g : E .Store) (s : E .Sample) → Good g → Good (E .sampled g s)
 
   -- the finished operations, as the client sees them in the bytes
   abbrev pub recordClient : E .Store → List (BoardCall E) → List (Done (gauge E))

@@ -1,0 +1,286 @@
+-- THE BOARD'S GAUGE MEETS WHAT DEMAND 3 ASKS: its codes, its lengths, its rows; and so demand 3 for the board with its records by value.
+use Prim.Native.Nat.{ℕ, _+_, _%_, _≤_, _<_}
+use native.Mathlib.Omega.{arith}
+use mathlib.Core.Path.{_≡_, refl, sym, subst, _∙_}
+use mathlib.Core.Logic.{_⊎_, inl, inr}
+use mathlib.Core.Bool.{Bool, true, false, cond}
+use mathlib.Core.List.{List}
+use lib.Dec.{eqb}
+use lib.ListN.{length, length-take}
+use borrow.Author.Tests.{eqb-false, eq-eqb, ne-eqb, le-leb}
+use Rattle.order.specs.Talk.{Read, value, denied, Sizes, sizes, closed, Outcome, stored, restarted, declined}
+use Rattle.table.specs.Row.{Row, RO, WO, CARD, COMMAND}
+use Rattle.table.specs.Rows.{row-count, at-row}
+use Rattle.table.specs.Rule.{held}
+use Rattle.table.specs.Find.{find-row}
+use Rattle.table.specs.declared.Found.{Found}
+use Rattle.table.specs.declared.Found.the-variants.{At, NoIndex, NoSub}
+use Rattle.table.proofs.Table.{row-rule, find-at}
+use Rattle.entry.specs.Entry.{entry-of}
+use Rattle.entry.proofs.RowLaws.{held-most}
+use Rattle.card.proofs.Made.{length-card}
+use Rattle.gauge.specs.Gates.{gate, read-gate, write-gate, write-only, read-only, smallest, largest, sizes-of}
+use Rattle.gauge.specs.Memory.{Memory, Store, memory-of, all-off}
+use Rattle.gauge.specs.Words.{command-at, read-word, word-of, same-bytes}
+use Rattle.gauge.specs.Lock.{locked}
+use Rattle.gauge.specs.Commands.{done, obeyed}
+use Rattle.gauge.specs.PowerUp.{fresh-values}
+use Rattle.gauge.specs.Whole.{by-type, value-of, read-through, read-whole, is-code, first-code, last-checks, effect, accepted, commit-row, with-trips, commit-through, commit-whole, write-sizes}
+use Rattle.gauge.specs.declared.gate.Gate.{Gate}
+use Rattle.gauge.specs.declared.gate.Gate.the-variants.{Open, Shut}
+use Rattle.gauge.specs.declared.word.Command.{Command}
+use Rattle.gauge.specs.declared.word.Command.the-variants.{DeviceReset, ExceptionReset, StoreParameters, LoadParameters}
+use Rattle.gauge.proofs.ValueLaws.{value-length}
+use Rattle.sdo.specs.declared.Key.{Key}
+use Rattle.sdo.specs.declared.Direction.the-variants.{Reads, Writes}
+use Rattle.sdo.specs.Eight.{Code}
+use Rattle.sdo.specs.Lines.{Sound, BoardCall}
+use Rattle.sdo.specs.Records.{allows, RowOf, GoodAfter, Rows, Demand3Records}
+use Rattle.sdo.proofs.DemandRecords.{demand3-records}
+use Rattle.board.specs.Gauge.{Sample, sampled, bag552}
+use Rattle.demand3.specs.Firmware.{powered-store}
+use Rattle.demand3.proofs.Lengths.{values-long, fresh-long, Sized, SizedAfter, commit-sized}
+
+-- ---- codes and lengths
+
+code : (c : ℕ) → c < 0x1_0000_0000 → 0x05040001 < c → Code c
+code c h k = record { fits = h; not-transfer = ne c 0x05040001 (omega arith); not-toggle = ne c 0x05030000 (omega arith) }
+  where
+    ne : (a b : ℕ) → b < a → eqb a b ≡ false
+    ne a b q = ne-eqb a b (λ e. omega arith)
+
+-- a gate: its row is in the table, its code is one from 06020000 on
+GateOk : Gate → Type 0
+GateOk (Open r) = r < row-count
+GateOk (Shut c) = Code c
+
+gate-ok : (barred c i s : ℕ) (f : Found) → Code c → find-row i s ≡ f → GateOk (gate barred c f)
+unfolding GateOk gate
+gate-ok barred c i s (At r) k e = go (eqb (at-row r .access) barred)
+  where
+    go : (b : Bool) → GateOk (cond b (Shut c) (Open r))
+    go true = k
+    go false = find-at i s r e .there
+gate-ok barred c i s NoIndex k e = code 0x06020000 (omega arith) (omega arith)
+gate-ok barred c i s NoSub k e = code 0x06090011 (omega arith) (omega arith)
+
+ReadOk : Read → Type 0
+ReadOk (value bytes) = length bytes < 0x1_0000_0000
+ReadOk (denied c) = Code c
+
+word-short : (c : Command) → length (read-word c) ≤ 6
+unfolding read-word
+word-short DeviceReset = omega arith
+word-short ExceptionReset = omega arith
+word-short StoreParameters = omega arith
+word-short LoadParameters = omega arith
+
+short-cond : (b : Bool) (x y : List ℕ) → length x ≤ 64 → length y ≤ 64 → length (cond b x y) ≤ 64
+short-cond true x y h k = h
+short-cond false x y h k = k
+
+value-short : (r : ℕ) → r < row-count → (values : List ℕ) → length (value-of (at-row r) values) ≤ 64
+unfolding value-of by-type entry-of
+value-short r h values =
+    let m : held (at-row r) ≤ 64 = held-most (at-row r) (row-rule r h) in
+    short-cond (eqb (at-row r .kind) CARD) _ _ (rw (length-card values) (omega arith))
+    (short-cond (eqb (at-row r .kind) COMMAND) _ _ (omega (arith, word-short (command-at (at-row r .index)))) (rw length-take (omega arith)))
+
+read-ok : (g : Gate) (values : List ℕ) → GateOk g → ReadOk (read-through g values)
+unfolding GateOk ReadOk read-through
+read-ok (Open r) values h = omega (arith, value-short r h values)
+read-ok (Shut c) values h = h
+
+SizesOk : Sizes → Type 0
+SizesOk (sizes low high) = Unit {0}
+SizesOk (closed c) = Code c
+
+sizes-ok : (g : Gate) → GateOk g → SizesOk (sizes-of g)
+unfolding GateOk SizesOk sizes-of
+sizes-ok (Open r) h = tt
+sizes-ok (Shut c) h = h
+
+module _ {S : Type 0} where
+  OutcomeOk : Outcome S → Type 0
+  OutcomeOk (stored g) = Unit {0}
+  OutcomeOk (restarted g) = Unit {0}
+  OutcomeOk (declined c) = Code c
+
+  ok-cond : (b : Bool) (x y : Outcome S) → OutcomeOk x → OutcomeOk y → OutcomeOk (cond b x y)
+  ok-cond true x y h k = h
+  ok-cond false x y h k = k
+
+done-ok : (c : Command) (m : Memory) → OutcomeOk (done c m)
+unfolding OutcomeOk done
+done-ok DeviceReset m = tt
+done-ok ExceptionReset m = tt
+done-ok StoreParameters m = tt
+done-ok LoadParameters m = tt
+
+effect-ok : (r : Row) (bytes : List ℕ) (m : Memory) → OutcomeOk (effect r bytes m)
+unfolding OutcomeOk effect by-type obeyed
+effect-ok r bytes m =
+    ok-cond (eqb (r .kind) CARD) _ _ tt
+    (ok-cond (eqb (r .kind) COMMAND) _ _ (ok-cond (same-bytes bytes (word-of (command-at (r .index)))) _ _ (done-ok (command-at (r .index)) m) tt) tt)
+
+-- the first code, if there is one
+first-ok : (r : Row) (values bytes : List ℕ) → (first-code (last-checks r values bytes) ≡ 0) ⊎ Code (first-code (last-checks r values bytes))
+unfolding first-code last-checks
+first-ok r values bytes = go (locked r values) (is-code 0x06090030 r bytes) (is-code 0x06090031 r bytes) (is-code 0x06090032 r bytes)
+  where
+    go : (a b c d : Bool) → (_≡_ {A = ℕ} (cond a 0x08000022 (cond b 0x06090030 (cond c 0x06090031 (cond d 0x06090032 0)))) 0)
+        ⊎ Code (cond a 0x08000022 (cond b 0x06090030 (cond c 0x06090031 (cond d 0x06090032 0))))
+    go true b c d = inr (code 0x08000022 (omega arith) (omega arith))
+    go false true c d = inr (code 0x06090030 (omega arith) (omega arith))
+    go false false true d = inr (code 0x06090031 (omega arith) (omega arith))
+    go false false false true = inr (code 0x06090032 (omega arith) (omega arith))
+    go false false false false = inl refl
+
+accepted-ok : (n : ℕ) (o : Outcome Memory) → (n ≡ 0) ⊎ Code n → OutcomeOk o → OutcomeOk (accepted n o)
+unfolding OutcomeOk accepted
+accepted-ok n o (inl e) h = rw e h
+accepted-ok n o (inr c) h = ok-cond (eqb n 0) o (declined n) h c
+
+trips-ok : (g : Store) (o : Outcome Memory) → OutcomeOk o → OutcomeOk (with-trips g o)
+unfolding OutcomeOk with-trips
+trips-ok g (stored m) h = tt
+trips-ok g (restarted m) h = tt
+trips-ok g (declined c) h = h
+
+commit-ok : (g : Gate) (s : Store) (bytes : List ℕ) → GateOk g → OutcomeOk (commit-through g s bytes)
+unfolding GateOk OutcomeOk commit-through commit-row
+commit-ok (Open r) s bytes h =
+    trips-ok s (commit-row (at-row r) bytes (s .memory))
+    (accepted-ok (first-code (last-checks (at-row r) (s .memory .values) bytes)) (effect (at-row r) bytes (s .memory)) (first-ok (at-row r) (s .memory .values) bytes) (effect-ok (at-row r) bytes (s .memory)))
+commit-ok (Shut c) s bytes h = h
+
+read-gate-ok : (k : Key) → GateOk (read-gate (find-row (k .index) (k .sub)))
+read-gate-ok k = gate-ok WO write-only (k .index) (k .sub) (find-row (k .index) (k .sub)) (code write-only (omega arith) (omega arith)) refl
+
+write-gate-ok : (k : Key) → GateOk (write-gate (find-row (k .index) (k .sub)))
+write-gate-ok k = gate-ok RO read-only (k .index) (k .sub) (find-row (k .index) (k .sub)) (code read-only (omega arith) (omega arith)) refl
+
+pub sound : Sound bag552
+unfolding ReadOk SizesOk OutcomeOk read-whole write-sizes commit-whole
+sound =
+    record {
+      value-fits = λ g k bytes e. subst ReadOk e (read-ok (read-gate (find-row (k .index) (k .sub))) (g .memory .values) (read-gate-ok k));
+      read-code = λ g k c e. subst ReadOk e (read-ok (read-gate (find-row (k .index) (k .sub))) (g .memory .values) (read-gate-ok k));
+      row-code = λ k c e. subst SizesOk e (sizes-ok (write-gate (find-row (k .index) (k .sub))) (write-gate-ok k));
+      commit-code = λ g k bytes c e. subst OutcomeOk e (commit-ok (write-gate (find-row (k .index) (k .sub))) g bytes (write-gate-ok k));
+    }
+
+-- ---- rows
+
+readable : (a : ℕ) → 1 ≤ a → a ≤ 3 → (a ≡ WO → ⊥) → allows Reads a ≡ true
+unfolding allows
+readable a h k n = eq-eqb (a % 2) 1 (odd a h k n)
+  where
+    odd : (a : ℕ) → 1 ≤ a → a ≤ 3 → (a ≡ 2 → ⊥) → a % 2 ≡ 1
+    odd a h k n = omega arith
+
+writable : (a : ℕ) → 1 ≤ a → (a ≡ RO → ⊥) → allows Writes a ≡ true
+unfolding allows
+writable a h n = le-leb 2 a (two a h n)
+  where
+    two : (a : ℕ) → 1 ≤ a → (a ≡ 1 → ⊥) → 2 ≤ a
+    two a h n = omega arith
+
+module _ (k : Key) where
+  ReadRow : Read → Type 0
+  ReadRow (value bytes) = RowOf Reads k (length bytes)
+  ReadRow (denied c) = Unit {0}
+
+  read-row : (f : Found) (values : List ℕ) → length values ≡ 1024 → find-row (k .index) (k .sub) ≡ f → ReadRow (read-through (read-gate f) values)
+  unfolding ReadRow read-through gate
+  read-row (At r) values n e = go (eqb (at-row r .access) WO) refl
+    where
+      there : r < row-count
+      there = find-at (k .index) (k .sub) r e .there
+
+      go : (b : Bool) → eqb (at-row r .access) WO ≡ b → ReadRow (read-through (cond b (Shut write-only) (Open r)) values)
+      go true q = tt
+      go false q =
+          record {
+            row = r;
+            found = e;
+            allowed = readable (at-row r .access) (row-rule r there .access-some) (row-rule r there .access-most) (eqb-false (at-row r .access) WO q);
+            length-is = value-length r there values n;
+          }
+  read-row NoIndex values n e = tt
+  read-row NoSub values n e = tt
+
+  WriteRow : Sizes → Type 0
+  WriteRow (sizes low high) = (low ≡ high) × RowOf Writes k high
+  WriteRow (closed c) = Unit {0}
+
+  write-row : (f : Found) → find-row (k .index) (k .sub) ≡ f → WriteRow (sizes-of (write-gate f))
+  unfolding WriteRow sizes-of gate smallest largest
+  write-row (At r) e = go (eqb (at-row r .access) RO) refl
+    where
+      there : r < row-count
+      there = find-at (k .index) (k .sub) r e .there
+
+      go : (b : Bool) → eqb (at-row r .access) RO ≡ b → WriteRow (sizes-of (cond b (Shut read-only) (Open r)))
+      go true q = tt
+      go false q = (
+        refl,
+        record {
+          row = r;
+          found = e;
+          allowed = writable (at-row r .access) (row-rule r there .access-some) (eqb-false (at-row r .access) RO q);
+          length-is = refl;
+        },
+      )
+  write-row NoIndex e = tt
+  write-row NoSub e = tt
+
+-- the store's bytes are as many as the table and the block have places for
+abbrev pub GoodStore : Store → Type 0
+GoodStore g = Sized (g .memory)
+
+trips-good : (g : Store) (o : Outcome Memory) → SizedAfter o → GoodAfter bag552 GoodStore (with-trips g o)
+unfolding with-trips
+trips-good g (stored m) h = h
+trips-good g (restarted m) h = h
+trips-good g (declined c) h = tt
+
+commit-good : (g : Store) (k : Key) (bytes : List ℕ) → GoodStore g → RowOf Writes k (length bytes) → GoodAfter bag552 GoodStore (commit-whole g (k .index) (k .sub) bytes)
+unfolding commit-whole commit-through gate
+commit-good g k bytes ok w = rw (w .found) (go (eqb (at-row (w .row) .access) RO))
+  where
+    go : (b : Bool) → GoodAfter bag552 GoodStore (commit-through (cond b (Shut read-only) (Open (w .row))) g bytes)
+    go true = tt
+    go false =
+        trips-good g (commit-row (at-row (w .row)) bytes (g .memory))
+        (commit-sized (w .row) (find-at (k .index) (k .sub) (w .row) (w .found) .there) bytes (w .length-is) (g .memory) ok)
+
+pub real-rows : Rows bag552
+unfolding read-whole write-sizes ReadRow WriteRow sampled
+real-rows =
+    record {
+      Good = GoodStore;
+      read-row = λ g k bytes ok e. subst (ReadRow k) e (read-row k (find-row (k .index) (k .sub)) (g .memory .values) (ok .values-are) refl);
+      write-row = λ k low high e. subst (WriteRow k) e (write-row k (find-row (k .index) (k .sub)) refl);
+      commit-good = commit-good;
+      sample-good = λ g s ok.
+          record {
+            values-are = values-long (g .memory .values) (g .trips) (s .pressure) (s .valid) (s .faults) (s .seconds) (ok .values-are);
+            block-is = ok .block-is;
+          };
+    }
+
+pub good : (g : Store) → GoodStore g → real-rows .Good g
+unfolding real-rows
+good g ok = ok
+
+pub good-is : (g : Store) → real-rows .Good g → GoodStore g
+unfolding real-rows
+good-is g ok = ok
+
+pub powered-good : (block : List ℕ) → length block ≡ 512 → GoodStore (powered-store block)
+powered-good block n = record { values-are = fresh-long block; block-is = n }
+
+-- THEOREM: demand 3 for the board with its records by value, for every list of messages and samples from power-up
+pub demand3-board : (block : List ℕ) → length block ≡ 512 → (cs : List (BoardCall bag552)) → Demand3Records bag552 (powered-store block) cs
+demand3-board block n cs = demand3-records bag552 real-rows sound (powered-store block) (good (powered-store block) (powered-good block n)) cs

@@ -1,0 +1,60 @@
+-- Conversations over the exported calls, each from power-up on a zero block: what is sent on which line, and the answer. Assumes nothing.
+use Prim.Native.Nat.{ℕ, _-_}
+use mathlib.Core.List.{List, [], _∷_, _++_, map}
+use lib.ListN.{length, take, drop, replicate}
+use Rattle.demand3.specs.Firmware.{Arrays, Exported, to-message, Back, back, history, final, power-on}
+
+-- eight bytes: "Bytes not shown are zero"
+abbrev pub shown : List ℕ → List ℕ
+shown bytes = bytes ++ replicate (8 - length bytes) 0
+
+pub record Case : Type 0 where
+  pub line : ℕ
+  pub message : List ℕ
+  pub answer : List ℕ
+
+abbrev pub on : ℕ → List ℕ → List ℕ → Case
+on line m a = record { line = line; message = m; answer = a }
+
+-- the call, with just the room that an answer needs, and what it must give back
+abbrev pub asks : Case → Exported
+asks c = to-message (c .line) (shown (c .message)) (replicate 8 0xEE)
+
+abbrev pub expects : Case → Back
+expects c = back 0 (shown (c .answer))
+
+-- "whatever they held": values and state of FF bytes before power-up
+abbrev pub powered : Arrays
+powered = power-on (replicate 1024 0xFF) (replicate 512 0) (replicate 256 0xFF)
+
+abbrev pub gives : List Case → List Back
+gives cs = map (λ (p : Exported × Back). p .1) (history powered (map asks cs))
+
+abbrev pub expected : List Case → List Back
+expected cs = map expects cs
+
+-- the arrays behind a conversation
+abbrev pub left-by : List Case → Arrays
+left-by cs = final powered (map asks cs)
+
+-- ---- the card, read and written whole in five parts
+
+abbrev pub card-read : ℕ → List ℕ → List Case
+card-read line card =
+    on line (0x40 ∷ 0x10 ∷ 0x20 ∷ []) (0x41 ∷ 0x10 ∷ 0x20 ∷ 0x00 ∷ 0x21 ∷ []) ∷
+    on line (0x60 ∷ []) (0x00 ∷ take 7 card) ∷
+    on line (0x70 ∷ []) (0x10 ∷ take 7 (drop 7 card)) ∷
+    on line (0x60 ∷ []) (0x00 ∷ take 7 (drop 14 card)) ∷
+    on line (0x70 ∷ []) (0x10 ∷ take 7 (drop 21 card)) ∷
+    on line (0x60 ∷ []) (0x05 ∷ drop 28 card) ∷
+    []
+
+abbrev pub card-write : ℕ → List ℕ → List Case
+card-write line card =
+    on line (0x21 ∷ 0x10 ∷ 0x20 ∷ 0x00 ∷ 0x21 ∷ []) (0x60 ∷ 0x10 ∷ 0x20 ∷ []) ∷
+    on line (0x00 ∷ take 7 card) (0x20 ∷ []) ∷
+    on line (0x10 ∷ take 7 (drop 7 card)) (0x30 ∷ []) ∷
+    on line (0x00 ∷ take 7 (drop 14 card)) (0x20 ∷ []) ∷
+    on line (0x10 ∷ take 7 (drop 21 card)) (0x30 ∷ []) ∷
+    on line (0x05 ∷ drop 28 card) (0x20 ∷ []) ∷
+    []

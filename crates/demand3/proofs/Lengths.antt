@@ -1,0 +1,165 @@
+-- LENGTHS STAY: the values have 1,024 bytes and the block 512 after every whole write of a row's length, every sample and every power-up.
+use Prim.Native.Nat.{ℕ, _+_, _≤_, _<_}
+use native.Mathlib.Omega.{arith}
+use mathlib.Core.Path.{_≡_, refl, sym, _∙_}
+use mathlib.Core.Bool.{Bool, true, false, cond}
+use mathlib.Core.List.{List}
+use lib.Dec.{leb, eqb}
+use lib.Ieee.{Float}
+use lib.ListN.{length, replicate}
+use borrow.Author.Tests.{le-leb, eqb-false}
+use Rattle.wire.specs.Little.{put-number}
+use Rattle.wire.proofs.SpliceLaws.{length-splice}
+use Rattle.wire.proofs.LittleLaws.{put-length}
+use Rattle.order.specs.Talk.{Outcome, stored, restarted, declined}
+use Rattle.table.specs.Row.{Row, CARD, COMMAND}
+use Rattle.table.specs.Rows.{rows, row-count, at-row}
+use Rattle.table.specs.Places.{input-value, trip-input-1, trip-input-2, reading-valid, status-1, status-2, trip-outputs, sensor-error, active-word, latched-status, latched-word, summary-byte, power-on-time, settings-1, settings-2, high-enable, low-enable, high-level, low-level, high-hysteresis, low-hysteresis}
+use Rattle.table.proofs.Table.{rows-length, row-rule}
+use Rattle.entry.proofs.EntryLaws.{length-stored, length-defaults}
+use Rattle.trip.specs.Trip.{usable-pressure}
+use Rattle.trip.specs.declared.Trips.{Trips}
+use Rattle.card.specs.Card.{point-1, point-2, fields-of, with-point, with-card}
+use Rattle.block.proofs.Theorems as saved
+use Rattle.sample.specs.Faults.{with-faults, with-summary}
+use Rattle.sample.specs.Sample.{trips-after, with-reading, with-trips, values-after}
+use Rattle.gauge.specs.Memory.{Memory}
+use Rattle.gauge.specs.Words.{command-at, status-of, with-status, same-bytes, word-of}
+use Rattle.gauge.specs.Exceptions.{exceptions-cleared}
+use Rattle.gauge.specs.PowerUp.{fresh-values, powered-up}
+use Rattle.gauge.specs.Commands.{done, obeyed}
+use Rattle.gauge.specs.Whole.{by-type, first-code, last-checks, effect, accepted, commit-row}
+use Rattle.gauge.specs.declared.word.Command.{Command}
+use Rattle.gauge.specs.declared.word.Command.the-variants.{DeviceReset, ExceptionReset, StoreParameters, LoadParameters}
+use Rattle.gauge.proofs.CommitLaws.{other-held}
+
+abbrev Long : List ℕ → Type 0
+Long l = length l ≡ 1024
+
+put-long : (l : List ℕ) (at n v : ℕ) → leb (at + n) 1024 ≡ true → Long l → Long (put-number l at n v)
+put-long l at n v h e = put-length l at n v (rw e h) ∙ e
+
+long-cond : (b : Bool) (x y : List ℕ) → Long x → Long y → Long (cond b x y)
+long-cond true x y h k = h
+long-cond false x y h k = k
+
+-- ---- a sample
+
+reading-long : (p : Float) (valid : ℕ) (l : List ℕ) → Long l → Long (with-reading p valid l)
+unfolding with-reading
+reading-long p valid l e =
+    long-cond (usable-pressure p valid) _ _
+    (put-long _ reading-valid 1 _ refl (put-long _ trip-input-2 4 _ refl (put-long _ trip-input-1 4 _ refl (put-long l input-value 4 _ refl e))))
+    (put-long l reading-valid 1 0 refl e)
+
+trips-long : (t : Trips) (l : List ℕ) → Long l → Long (with-trips t l)
+unfolding with-trips
+trips-long t l e =
+    put-long _ trip-outputs 4 _ refl
+    (put-long _ (status-2 + 1) 1 _ refl (put-long _ status-2 1 _ refl (put-long _ (status-1 + 1) 1 _ refl (put-long l status-1 1 _ refl e))))
+
+faults-long : (faults : ℕ) (l : List ℕ) → Long l → Long (with-faults faults l)
+unfolding with-faults
+faults-long faults l e = put-long _ latched-word 4 _ refl (put-long _ active-word 4 _ refl (put-long l sensor-error 2 _ refl e))
+
+summary-long : (l : List ℕ) → Long l → Long (with-summary l)
+unfolding with-summary
+summary-long l e = put-long l summary-byte 1 _ refl e
+
+pub values-long : (l : List ℕ) (was : Trips) (p : Float) (valid faults seconds : ℕ) → length l ≡ 1024 → length (values-after l was p valid faults seconds) ≡ 1024
+unfolding values-after
+values-long l was p valid faults seconds e =
+    put-long _ power-on-time 4 seconds refl
+    (summary-long _ (faults-long faults _ (trips-long (trips-after l was p valid) _ (reading-long p valid l e))))
+
+-- ---- a card
+
+point-long : (l : List ℕ) (at : ℕ) (fields : List ℕ) → at + 34 ≤ 1024 → Long l → Long (with-point l at fields)
+unfolding with-point
+point-long l at fields h e =
+    put-long _ (at + low-hysteresis) 4 _ (fit 30 4 (omega arith))
+    (put-long _ (at + low-level) 4 _ (fit 14 4 (omega arith))
+    (put-long _ (at + high-hysteresis) 4 _ (fit 26 4 (omega arith))
+    (put-long _ (at + high-level) 4 _ (fit 2 4 (omega arith)) (put-long _ (at + low-enable) 1 _ (fit 1 1 (omega arith)) (put-long l (at + high-enable) 1 _ (fit 0 1 (omega arith)) e)))))
+  where
+    fit : (k n : ℕ) → k + n ≤ 34 → leb (at + k + n) 1024 ≡ true
+    fit k n q = le-leb (at + k + n) 1024 (omega arith)
+
+card-long : (l card : List ℕ) → Long l → Long (with-card l card)
+unfolding with-card
+card-long l card e = point-long _ settings-2 (fields-of card point-2) (omega arith) (point-long l settings-1 (fields-of card point-1) (omega arith) e)
+
+-- ---- commands
+
+status-long : (c : Command) (code : ℕ) (l : List ℕ) → Long l → Long (with-status c code l)
+unfolding with-status status-of
+status-long DeviceReset code l e = put-long _ 588 1 code refl (put-long l 587 1 code refl e)
+status-long ExceptionReset code l e = put-long _ 591 1 code refl (put-long l 590 1 code refl e)
+status-long StoreParameters code l e = put-long _ 594 1 code refl (put-long l 593 1 code refl e)
+status-long LoadParameters code l e = put-long _ 597 1 code refl (put-long l 596 1 code refl e)
+
+cleared-long : (l : List ℕ) → Long l → Long (exceptions-cleared l)
+unfolding exceptions-cleared
+cleared-long l e = summary-long _ (length-splice l latched-status (replicate 33 0) (rw e (omega arith)) ∙ e)
+
+pub fresh-long : (block : List ℕ) → length (fresh-values block) ≡ 1024
+unfolding fresh-values
+fresh-long block = saved.length-loaded block _ (length-defaults 1024 rows (λ k h. row-rule k (omega (arith, rows-length)) .inside) (replicate 1024 0) refl)
+
+-- the memory's bytes are as many as the table and the block have places for
+pub record Sized (m : Memory) : Type 0 where
+  pub values-are : length (m .values) ≡ 1024
+  pub block-is : length (m .block) ≡ 512
+
+abbrev pub SizedAfter : Outcome Memory → Type 0
+SizedAfter (stored m) = Sized m
+SizedAfter (restarted m) = Sized m
+SizedAfter (declined c) = Unit {0}
+
+sized-cond : (b : Bool) (x y : Outcome Memory) → SizedAfter x → SizedAfter y → SizedAfter (cond b x y)
+sized-cond true x y h k = h
+sized-cond false x y h k = k
+
+done-sized : (c : Command) (m : Memory) → Sized m → SizedAfter (done c m)
+unfolding done powered-up
+done-sized DeviceReset m s = record { values-are = fresh-long (m .block); block-is = s .block-is }
+done-sized ExceptionReset m s =
+    record { values-are = status-long ExceptionReset 0 _ (cleared-long (m .values) (s .values-are)); block-is = s .block-is }
+done-sized StoreParameters m s =
+    record { values-are = status-long StoreParameters _ (m .values) (s .values-are); block-is = saved.length-stored (m .values) (m .block) (s .block-is) }
+done-sized LoadParameters m s =
+    record { values-are = status-long LoadParameters _ _ (saved.length-loaded (m .block) (m .values) (s .values-are)); block-is = s .block-is }
+
+obeyed-sized : (c : Command) (bytes : List ℕ) (m : Memory) → Sized m → SizedAfter (obeyed c bytes m)
+unfolding obeyed
+obeyed-sized c bytes m s =
+    sized-cond (same-bytes bytes (word-of c)) _ _ (done-sized c m s) (record { values-are = status-long c 2 (m .values) (s .values-are); block-is = s .block-is })
+
+-- ---- whole writes
+
+type-sized : (r : Row) (x y z : Outcome Memory) → SizedAfter x → SizedAfter y → ((r .kind ≡ CARD → ⊥) → (r .kind ≡ COMMAND → ⊥) → SizedAfter z) → SizedAfter (by-type r x y z)
+unfolding by-type
+type-sized r x y z hx hy hz = go (eqb (r .kind) CARD) (eqb (r .kind) COMMAND) refl refl
+  where
+    go : (d c : Bool) → eqb (r .kind) CARD ≡ d → eqb (r .kind) COMMAND ≡ c → SizedAfter (cond d x (cond c y z))
+    go true c p q = hx
+    go false true p q = hy
+    go false false p q = hz (eqb-false (r .kind) CARD p) (eqb-false (r .kind) COMMAND q)
+
+effect-sized : (k : ℕ) → k < row-count → (bytes : List ℕ) → length bytes ≡ at-row k .len → (m : Memory) → Sized m → SizedAfter (effect (at-row k) bytes m)
+unfolding effect
+effect-sized k there bytes long m s =
+    type-sized (at-row k) _ _ _
+    (record { values-are = card-long (m .values) bytes (s .values-are); block-is = s .block-is })
+    (obeyed-sized (command-at (at-row k .index)) bytes m s)
+    (λ p q.
+    let i = row-rule k there .inside in
+    record {
+      values-are = length-stored (at-row k) (m .values) bytes (rw (s .values-are) i) (long ∙ sym (other-held k there p q)) ∙ s .values-are;
+      block-is = s .block-is;
+    })
+
+pub commit-sized : (k : ℕ) → k < row-count → (bytes : List ℕ) → length bytes ≡ at-row k .len → (m : Memory) → Sized m → SizedAfter (commit-row (at-row k) bytes m)
+unfolding commit-row accepted
+commit-sized k there bytes long m s =
+    sized-cond (eqb (first-code (last-checks (at-row k) (m .values) bytes)) 0) _ _ (effect-sized k there bytes long m s) tt

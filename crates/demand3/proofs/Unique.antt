@@ -1,0 +1,19 @@
+-- NO SECOND OUTCOME: two outcomes that meet the promise of an exported call are equal. Assumes nothing.
+use Prim.Native.Nat.{ℕ}
+use mathlib.Core.Path.{_≡_, sym, _∙_}
+use mathlib.Core.List.{List}
+use lib.Ieee.{Float}
+use Rattle.board.specs.Calls.{Called, Powered, Fed, Shown}
+use Rattle.demand3.specs.Promised.{Given, Message-promised, Power-up-promised, Sample-promised, Image-promised}
+
+pub one-message : (i : Given) (o p : Called) → Message-promised i o → Message-promised i p → o ≡ p
+one-message i o p e f = e ∙ sym f
+
+pub one-power-up : (v b s : List ℕ) (o p : Powered) → Power-up-promised v b s o → Power-up-promised v b s p → o ≡ p
+one-power-up v b s o p e f = e ∙ sym f
+
+pub one-sample : (x : Float) (k f n : ℕ) (v s : List ℕ) (o p : Fed) → Sample-promised x k f n v s o → Sample-promised x k f n v s p → o ≡ p
+one-sample x k f n v s o p e q = e ∙ sym q
+
+pub one-image : (v r : List ℕ) (o p : Shown) → Image-promised v r o → Image-promised v r p → o ≡ p
+one-image v r o p e f = e ∙ sym f

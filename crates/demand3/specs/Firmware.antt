@@ -1,0 +1,143 @@
+-- THE C FIRMWARE'S RUN, from power-up: a list of calls on three lent arrays, each exactly what the exported call is held to (crate board,
+-- specs/Calls.antt). THE OBSERVER is given the calls and what they give back, and never the arrays. DEMAND 3 over both. Assumes nothing.
+use Prim.Native.Nat.{ℕ, zero, suc}
+use mathlib.Core.Path.{_≡_}
+use mathlib.Core.Bool.{Bool, cond}
+use mathlib.Core.List.{List, [], _∷_, map}
+use mathlib.Core.Option.{Option, none, some, Option·map}
+use lib.Dec.{eqb}
+use lib.Ieee.{Float}
+use lib.ListN.{take}
+use Rattle.order.specs.Talk.{idle}
+use Rattle.order.specs.Gauge.{Gauge, results, endOf}
+use Rattle.order.specs.Observe.{Done, follow}
+use Rattle.order.specs.Promise.{opsOf, gotOf}
+use Rattle.order.specs.Bytes.{heard, fed, reads, client}
+use Rattle.gauge.specs.Memory.{Store, memory-of, all-off}
+use Rattle.gauge.specs.PowerUp.{fresh-values}
+use Rattle.sdo.specs.Lines.{gauge, eight, Line, tool, service, twoLines, eightCodec, BoardCall}
+use Rattle.sdo.specs.Records.{RecordBoard}
+use Rattle.board.specs.State.{record-at}
+use Rattle.board.specs.Gauge.{Sample, bag552}
+use Rattle.board.specs.Calls.{Called, Fed, Shown, Powered, store-of, message-call, power-up-call, sample-call, image-call}
+
+-- the bytes lent to every call: live values, saved block, state
+pub record Arrays : Type 0 where
+  pub values : List ℕ
+  pub block : List ℕ
+  pub state : List ℕ
+
+abbrev pub arrays : List ℕ → List ℕ → List ℕ → Arrays
+arrays values block state = record { values = values; block = block; state = state }
+
+-- gauge_message with any line number, any bytes and any room for the answer; gauge_sample; gauge_image with any room
+pub data Exported : Type 0 where
+  to-message : ℕ → List ℕ → List ℕ → Exported
+  to-sample : Sample → Exported
+  to-image : List ℕ → Exported
+
+-- what a call gives back: its number, and the room that it was lent for the answer or the image
+pub record Back : Type 0 where
+  pub number : ℕ
+  pub room : List ℕ
+
+abbrev pub back : ℕ → List ℕ → Back
+back number room = record { number = number; room = room }
+
+-- ---- the board's side
+
+abbrev pub by-message : Called → Arrays × Back
+by-message c = (arrays (c .values) (c .block) (c .state), back (c .number) (c .answer))
+
+abbrev pub by-sample : List ℕ → Fed → Arrays × Back
+by-sample block c = (arrays (c .values) block (c .state), back (c .number) [])
+
+abbrev pub by-image : Arrays → Shown → Arrays × Back
+by-image a c = (a, back (c .number) (c .image))
+
+-- ONE CALL
+unfoldable pub exported : Arrays → Exported → Arrays × Back
+exported a (to-message line m room) = by-message (message-call line m (a .values) (a .block) (a .state) room)
+exported a (to-sample s) = by-sample (a .block) (sample-call (s .pressure) (s .valid) (s .faults) (s .seconds) (a .values) (a .state))
+exported a (to-image room) = by-image a (image-call (a .values) room)
+
+-- each call with what it gave back, and the arrays at the end
+unfoldable pub history : Arrays → List Exported → List (Exported × Back)
+history a [] = []
+history a (c ∷ cs) = (c, (exported a c) .1) ∷ history ((exported a c) .0) cs
+
+unfoldable pub final : Arrays → List Exported → Arrays
+final a [] = a
+final a (c ∷ cs) = final ((exported a c) .0) cs
+
+-- the arrays that a power-up call leaves
+abbrev pub by-power-up : Powered → Arrays
+by-power-up p = arrays (p .values) (p .block) (p .state)
+
+unfoldable pub power-on : List ℕ → List ℕ → List ℕ → Arrays
+power-on values block state = by-power-up (power-up-call values block state)
+
+-- ---- the observer's side
+
+-- "line 0 the tool, line 1 service"
+unfoldable pub line-of : ℕ → Line
+line-of zero = tool
+line-of (suc n) = service
+
+-- 0 is "answered": eight bytes. 5 is "client's abort taken": no answer. Any other number is a refusal and no event
+unfoldable pub answer-by : Back → Option (List ℕ)
+answer-by b = cond (eqb (b .number) 0) (some (take 8 (b .room))) (cond (eqb (b .number) 5) (some []) none)
+
+-- a call and its answer's bytes, as demand 3 has them. An image is no event
+abbrev pub Answered : Type 0
+Answered = BoardCall bag552 × List ℕ
+
+unfoldable pub event-of : Exported → Back → Option Answered
+event-of (to-message line m room) b = Option·map (λ bytes. (heard (line-of line) m, bytes)) (answer-by b)
+event-of (to-sample s) b = cond (eqb (b .number) 0) (some (fed s, [])) none
+event-of (to-image room) b = none
+
+unfoldable pub with-event : Option Answered → List Answered → List Answered
+with-event none es = es
+with-event (some e) es = e ∷ es
+
+unfoldable pub events : List (Exported × Back) → List Answered
+events [] = []
+events (p ∷ ps) = with-event (event-of (p .0) (p .1)) (events ps)
+
+-- the messages and samples among the calls
+abbrev pub calls-in : List (Exported × Back) → List (BoardCall bag552)
+calls-in ps = map (λ (p : Answered). p .0) (events ps)
+
+-- the finished operations, in their order, each with what it got
+unfoldable pub observed : List (Exported × Back) → List (Done (gauge bag552))
+observed ps = client (gauge bag552) (twoLines idle) (λ l. eight) (λ l. eightCodec) (events ps)
+
+-- ---- the plain gauge's side
+
+-- "Power-up: defaults everywhere, then NV entries from the saved block if it is not faulty; trips off"
+abbrev pub powered-store : List ℕ → Store
+powered-store block = record { memory = memory-of (fresh-values block) block; trips = all-off }
+
+-- values, saved block and trip states at the end of a run
+abbrev pub store-in : Arrays → Store
+store-in a = store-of (a .values) (a .block) (a .state)
+
+-- the board that the arrays stand for
+abbrev pub board-in : Arrays → RecordBoard bag552
+board-in a = record { store = store-in a; records = record { onTool = record-at (a .state) 0; onService = record-at (a .state) 96 } }
+
+-- ---- DEMAND 3, of the calls that C firmware makes
+
+module _ (values block state : List ℕ) (cs : List Exported) where
+  -- the run, and what the observer makes of it
+  abbrev pub run-of : List (Done (gauge bag552))
+  run-of = observed (history (power-on values block state) cs)
+
+  pub record Demand3Calls : Type 0 where
+    pub same-results : results (gauge bag552) (powered-store block) (opsOf (gauge bag552) run-of) ≡ gotOf (gauge bag552) run-of
+    pub same-end : endOf (gauge bag552) (powered-store block) (opsOf (gauge bag552) run-of) ≡ store-in (final (power-on values block state) cs)
+
+-- the value that the client has after these calls, if the read that it opened on the line before them is finished
+abbrev pub value-got : Line → List (Exported × Back) → Option (List ℕ)
+value-got l ps = follow (gauge bag552) (twoLines idle) (λ l. eight) l (map (reads (gauge bag552) (twoLines idle) (λ l. eight) (λ l. eightCodec)) (events ps)) []

@@ -1,0 +1,3 @@
+pub mod Firmware
+pub mod Promised
+pub mod Open
