@@ -1,14 +1,17 @@
 -- THE ROUND TRIP: eight bytes on a line that are printed and typed again are the same eight bytes on the same line. Assumes nothing.
 use mathlib.Core.Bool.{Bool, true, false}
-use mathlib.Core.List.{List, [], _∷_}
-use mathlib.Core.Path.{_≡_, refl}
+use mathlib.Core.List.{List, [], _∷_, _++_, map, append-nil, append-assoc}
+use mathlib.Core.Path.{_≡_, refl, sym, ap, _∙_}
 use Prim.Native.Nat.{ℕ, zero, suc, _+_, _-_, _*_, _/_, _%_, _≤_, _<_}
 use native.Mathlib.Omega.{arith}
 use lib.Dec.{ltb}
 use lib.ListN.{length, getD}
-use borrow.Author.Tests.{ltb-true, ltb-false, lt-ltb, le-ltb, le-leb, lt-leb}
+use borrow.Author.Tests.{ltb-true, ltb-false, lt-ltb, le-ltb, le-leb, lt-leb, ne-eqb}
 use Rattle.wire.proofs.LittleLaws.{Bytes}
-use Rattle.dialogue.specs.Text.{between, is-digit, digit-value, all-digits, pairs, is-message, a-message, read, spoken, capital, hex-text, message-text}
+use Rattle.dialogue.specs.declared.Spoken.{Spoken}
+use Rattle.dialogue.specs.Text.{between, is-digit, digit-value, all-digits, pairs, is-message, a-message, read, spoken, capital, hex-text, message-text, answer-text}
+use Rattle.dialogue.specs.Lines.{lines-from, nothing-yet, told}
+use Rattle.dialogue.proofs.Hearing.{heard}
 use Rattle.dialogue.proofs.TextLaws.{length-hex, return-absent}
 
 -- a printed digit is a digit, of the same worth
@@ -67,6 +70,14 @@ hex-high (b ∷ bs) zero k h = digit (b / 16) (omega (arith, k 0)) .high
 hex-high (b ∷ bs) (suc zero) k h = digit (b % 16) (omega arith) .high
 hex-high (b ∷ bs) (suc (suc i)) k h = hex-high bs i (λ j. k (suc j)) (omega arith)
 
+-- text with no newline in it, and a newline, is one line
+unbroken : (t begun : List ℕ) → ((i : ℕ) → i < length t → 10 < getD t i 0) → lines-from begun (t ++ (10 ∷ [])) ≡ (begun ++ t) ∷ []
+unfolding lines-from
+unbroken [] begun h = ap (λ (l : List ℕ). l ∷ []) (sym (append-nil begun))
+unbroken (x ∷ xs) begun h =
+    rw (ne-eqb x 10 (λ e. omega (arith, h 0 (omega arith))))
+    (unbroken xs (begun ++ (x ∷ [])) (λ i k. h (suc i) (omega arith)) ∙ ap (λ (l : List ℕ). l ∷ []) (append-assoc begun (x ∷ []) xs))
+
 module _ (n : ℕ) (bytes : List ℕ) (h : n < 2) (e : length bytes ≡ 8) (k : Bytes bytes) where
   message-length : length (message-text n bytes) ≡ 18
   unfolding message-text
@@ -90,3 +101,14 @@ module _ (n : ℕ) (bytes : List ℕ) (h : n < 2) (e : length bytes ≡ 8) (k : 
   pub printed-spoken : spoken (message-text n bytes) ≡ a-message n bytes
   unfolding spoken
   printed-spoken = rw (return-absent (message-text n bytes) no-return) message-read
+
+  message-high : (i : ℕ) → i < length (message-text n bytes) → 10 < getD (message-text n bytes) i 0
+  unfolding message-text
+  message-high zero i<18 = omega arith
+  message-high (suc zero) i<18 = omega arith
+  message-high (suc (suc i)) i<18 = omega (arith, hex-high bytes i k (omega arith))
+
+  -- and a line that is printed, given back as input, is that message and nothing else
+  pub printed-heard : told nothing-yet (answer-text n bytes) ≡ a-message n bytes ∷ []
+  unfolding answer-text
+  printed-heard = heard (message-text n bytes ++ (10 ∷ [])) ∙ ap (map spoken) (unbroken (message-text n bytes) [] message-high) ∙ ap (λ (s : Spoken). s ∷ []) printed-spoken

@@ -6,13 +6,13 @@ use Prim.Native.Nat.{ℕ, zero, suc, _+_, _-_, _*_, _/_, _%_, _≤_, _<_}
 use native.Mathlib.Numerals.{add-one}
 use native.Mathlib.Omega.{arith}
 use lib.Dec.{leb, eqb}
-use lib.ListN.{length, take, drop, getD, set, length-set, length-drop, List·getD-eq-default}
-use lib.Seq.{drop-cons, take-all}
+use lib.ListN.{length, take, drop, getD, set, length-set, length-drop, length-append, List·getD-eq-default}
+use lib.Seq.{drop-cons, take-all, take-at}
 use borrow.Author.Tests.{leb-true, eqb-true, eq-eqb, ne-eqb}
 use Rattle.wire.specs.Splice.{splice}
 use Rattle.wire.proofs.Writes.{and-left, and-right}
 use Rattle.wire.proofs.SpliceLaws.{splice-cons, splice-none, splice-then, length-splice}
-use Rattle.dialogue.specs.Text.{between, is-digit, digit-value, all-digits, pairs, is-message, without-return, capital, hex-text, message-text, answer-text, none-text, unknown-text}
+use Rattle.dialogue.specs.Text.{no-message, a-message, pick-spoken, read, spoken, between, is-digit, digit-value, all-digits, pairs, is-message, without-return, capital, hex-text, message-text, answer-text, none-text, unknown-text}
 
 pub between-low : (low b high : ℕ) → between low b high ≡ true → low ≤ b
 unfolding between
@@ -124,6 +124,10 @@ pub message-line : (l : List ℕ) → is-message l ≡ true → 48 ≤ getD l 0 
 unfolding is-message
 message-line l h = between-low 48 (getD l 0 0) 49 (and-left (between 48 (getD l 0 0) 49) _ (and-right (eqb (length l) 18) _ h))
 
+pub message-figure : (l : List ℕ) → is-message l ≡ true → getD l 0 0 ≤ 49
+unfolding is-message
+message-figure l h = between-high 48 (getD l 0 0) 49 (and-left (between 48 (getD l 0 0) 49) _ (and-right (eqb (length l) 18) _ h))
+
 pub return-empty : (l : List ℕ) → length l ≡ 0 → without-return l ≡ l
 unfolding without-return
 return-empty l h =
@@ -137,3 +141,23 @@ return-dropped l h = rw (eq-eqb _ 13 h)
 pub return-absent : (l : List ℕ) → (getD l (length l - 1) 0 ≡ 13 → ⊥) → without-return l ≡ l
 unfolding without-return
 return-absent l h = rw (ne-eqb _ 13 h)
+
+-- ---- what a caller needs of the printed lines
+
+pub length-answer : (n : ℕ) (bytes : List ℕ) → length bytes ≡ 8 → length (answer-text n bytes) ≡ 19
+unfolding answer-text message-text
+length-answer n bytes h = rw length-append (omega (arith, length-hex bytes))
+
+-- what was put at the start of the room stands there
+pub text-put : (text room put : List ℕ) (r : ℕ) → r ≡ length text → put ≡ splice room 0 text → take r put ≡ text
+unfolding splice
+text-put text room put r h e = rw e (take-at text (drop (0 + length text) room) r (sym h))
+
+-- a line that was spoken is 0 or 1
+pub spoken-line : (l : List ℕ) → spoken l .line < 2
+unfolding spoken read
+spoken-line l = go (is-message (without-return l)) refl
+  where
+    go : (t : Bool) → is-message (without-return l) ≡ t → pick-spoken t (a-message (getD (without-return l) 0 0 - 48) (pairs (drop 2 (without-return l)))) no-message .line < 2
+    go true e = omega (arith, message-figure (without-return l) e)
+    go false e = omega arith
