@@ -4,10 +4,10 @@ use mathlib.Core.List.{List, [], _∷_, _++_, append-assoc}
 use Prim.Native.Nat.{ℕ, zero, suc, _+_, _*_, _≤_}
 use native.Mathlib.Nat.{suc-add, zero-add}
 use native.Mathlib.Omega.{arith}
-use lib.ListN.{length, take, drop, length-append, length-drop}
+use lib.ListN.{length, take, drop, replicate, length-append, length-drop}
 use lib.Seq.{take-append-le, drop-append-le, drop-drop, drop-at, drop-nil, getD-drop}
 use Rattle.wire.specs.Splice.{splice}
-use Rattle.wire.proofs.SpliceLaws.{splice-then}
+use Rattle.wire.proofs.SpliceLaws.{splice-then, part-same}
 use Rattle.wire.proofs.LittleLaws.{Bytes}
 use Rattle.bits.specs.Bits.{msb, bits, num, packed}
 use Rattle.bits.proofs.Numbers.{length-msb, length-bits, length-packed, bytes-of}
@@ -25,6 +25,10 @@ length-card-bits values h =
 pub length-card : (values : List ℕ) → length (card-of values) ≡ 33
 unfolding card-of
 length-card values = length-packed 33 (card-bits values)
+
+-- the card, out of the 64 bytes that hold it
+pub card-held : (values : List ℕ) → take 33 (splice (replicate 64 0) 0 (card-of values)) ≡ card-of values
+card-held values = part-same (replicate 64 0) 0 (card-of values) refl 33 (length-card values)
 
 -- ---- bits as bytes, in two parts
 

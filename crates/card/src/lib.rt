@@ -88,6 +88,7 @@ fn judge_layout(v: u32) -> Verdict
     Verdict::NotANumber
 }
 
+// 5 is REAL, and 0x44BB8000 the pattern of 1500: the limits of each level and hysteresis in the table.
 fn judge_level(v: u32) -> Verdict
     ensures { λ r. ⌜ r ≡ level-verdict v ⌝ }
 {

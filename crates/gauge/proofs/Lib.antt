@@ -1,3 +1,4 @@
 pub mod GateLaws
 pub mod SameBytes
 pub mod CommitLaws
+pub mod ValueLaws

@@ -19,7 +19,18 @@ same-length : tie.Need-same-length
 same-length c = search needs
 
 returns : tie.Need-returns
-returns c = card-made (c .before .before .before .before .before .before .before .before .before .before .before .before .before .before .args .values .now) (c .before .before .before .before .before .before .before .before .before .before .before .before .before .before .args .card .now) _ _ _ (λ k. c .before .before .before .before .before .before .before .before .before .before .before .before .shared-slice-known .given k .fits) (λ k. c .before .before .before .before .before .before .before .before .before .before .before .before .before .slice-known .given k .fits) (λ k. c .slice-known4 .given k .fits) (c .before .before .put-point2 .kept .0 ∙ c .before .before .before .before .before .before .put-point .kept .0 ∙ c .before .before .before .before .before .before .before .before .before .before .put-field .kept .0) (omega arith) (c .before .before .before .before .before .before .before .before .before .before .put-field .ensures) (c .before .before .before .before .before .before .put-point .ensures) (c .before .before .put-point2 .ensures)
+returns c =
+    let two = c .before .before in
+    let one = c .before .before .before .before .before .before in
+    let head = c .before .before .before .before .before .before .before .before .before .before in
+    let s = c .before .before .before .before .before .before .before .before .before .before .before .before in
+    let a = s .before .before .args in
+    card-made (a .values .now) (a .card .now) _ _ _ (λ k. s .shared-slice-known .given k .fits) (λ k. s .before .slice-known .given k .fits) (λ k. c .slice-known4 .given k .fits)
+    (two .put-point2 .kept .0 ∙ one .put-point .kept .0 ∙ head .put-field .kept .0)
+    (omega arith)
+    (head .put-field .ensures)
+    (one .put-point .ensures)
+    (two .put-point2 .ensures)
 
 pub put-card-spec : {M : Type 1} → statement M
 put-card-spec =

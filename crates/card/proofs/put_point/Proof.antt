@@ -56,14 +56,22 @@ slice-aggregate-pack-fields-2 c = search needs
 
 pack-fields-requires : tie.Need-pack-fields-requires
 unfolding total
-pack-fields-requires c κs = (rw (fields-are (c .before .before .before .before .before .before .before .before .before .before .before .args .values .now) (c .before .before .before .before .before .before .before .before .before .before .before .args .from) (c .before .before .before .before .before .before .before .before .enable-at .ensures) (c .before .before .before .before .before .before .before .enable-at2 .ensures) (c .before .before .before .before .before .before .word-at .ensures) (c .before .before .before .before .before .word-at2 .ensures) (c .before .before .before .before .word-at3 .ensures) (c .before .before .before .word-at4 .ensures)) (packable (c .before .before .before .before .before .before .before .before .before .before .before .args .values .now) (c .before .before .before .before .before .before .before .before .before .before .before .args .from) (λ k. c .before .before .before .before .before .before .before .before .before .shared-slice-known .given k .fits)), omega arith, omega arith)
+pack-fields-requires c κs =
+    let w = c .before .before .before in
+    let s = c .before .before .before .before .before .before .before .before .before in
+    let a = s .before .before .args in
+    (rw (fields-are (a .values .now) (a .from) (w .before .before .before .before .before .enable-at .ensures) (w .before .before .before .before .enable-at2 .ensures) (w .before .before .before .word-at .ensures) (w .before .before .word-at2 .ensures) (w .before .word-at3 .ensures) (w .word-at4 .ensures)) (packable (a .values .now) (a .from) (λ k. s .shared-slice-known .given k .fits)), omega arith, omega arith)
 
 same-length : tie.Need-same-length
 same-length c = search needs
 
 returns : tie.Need-returns
 unfolding point-bits
-returns c = c .before .before .pack-fields .ensures ∙ ap (λ (vs : List ℕ). splice (bits (c .before .before .before .before .before .before .before .before .before .before .before .before .before .before .args .card .now)) (c .before .before .before .before .before .before .before .before .before .before .before .before .before .before .args .at) (encode widths vs)) (fields-are (c .before .before .before .before .before .before .before .before .before .before .before .before .before .before .args .values .now) (c .before .before .before .before .before .before .before .before .before .before .before .before .before .before .args .from) (c .before .before .before .before .before .before .before .before .before .before .before .enable-at .ensures) (c .before .before .before .before .before .before .before .before .before .before .enable-at2 .ensures) (c .before .before .before .before .before .before .before .before .before .word-at .ensures) (c .before .before .before .before .before .before .before .before .word-at2 .ensures) (c .before .before .before .before .before .before .before .word-at3 .ensures) (c .before .before .before .before .before .before .word-at4 .ensures))
+returns c =
+    let w = c .before .before .before .before .before .before in
+    let a = c .before .before .before .before .before .before .before .before .before .before .before .before .before .before .args in
+    c .before .before .pack-fields .ensures
+    ∙ ap (λ (vs : List ℕ). splice (bits (a .card .now)) (a .at) (encode widths vs)) (fields-are (a .values .now) (a .from) (w .before .before .before .before .before .enable-at .ensures) (w .before .before .before .before .enable-at2 .ensures) (w .before .before .before .word-at .ensures) (w .before .before .word-at2 .ensures) (w .before .word-at3 .ensures) (w .word-at4 .ensures))
 
 pub put-point-spec : {M : Type 1} → statement M
 put-point-spec =

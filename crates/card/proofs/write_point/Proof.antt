@@ -80,7 +80,16 @@ same-length : tie.Need-same-length
 same-length c = search needs
 
 returns : tie.Need-returns
-returns c = point-written (c .before .before .before .before .before .before .before .before .before .before .before .before .before .before .before .before .before .before .before .before .before .before .before .before .before .before .before .args .values .now) _ _ _ _ _ _ _ _ (c .before .before .before .before .before .before .before .before .before .before .before .before .before .before .before .before .before .before .before .before .before .before .before .before .before .before .before .args .to) (c .before .before .before .before .before .before .before .before .before .before .before .before .before .before .before .before .before .before .before .before .before .before .before .before .fields-of .ensures) (c .before .before .before .before .before .before .before .before .before .before .before .before .before .before .before .before .before .before .before .before .before .before .put-byte .ensures) (c .before .before .before .before .before .before .before .before .before .before .before .before .before .before .before .before .before .before .put-byte2 .ensures) (c .before .before .before .before .before .before .before .before .before .before .before .before .before .before .put-word .ensures) (c .before .before .before .before .before .before .before .before .before .before .put-word2 .ensures) (c .before .before .before .before .before .before .put-word3 .ensures) (c .before .before .put-word4 .ensures)
+returns c =
+    let w4 = c .before .before in
+    let w3 = w4 .before .before .before .before in
+    let w2 = w3 .before .before .before .before in
+    let w1 = w2 .before .before .before .before in
+    let b2 = w1 .before .before .before .before in
+    let b1 = b2 .before .before .before .before in
+    let f = b1 .before .before in
+    let a = f .before .before .before .args in
+    point-written (a .values .now) _ _ _ _ _ _ _ _ (a .to) (f .fields-of .ensures) (b1 .put-byte .ensures) (b2 .put-byte2 .ensures) (w1 .put-word .ensures) (w2 .put-word2 .ensures) (w3 .put-word3 .ensures) (w4 .put-word4 .ensures)
 
 pub write-point-spec : {M : Type 1} → statement M
 write-point-spec =

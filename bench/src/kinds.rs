@@ -1,0 +1,285 @@
+//! The kinds of call that are measured. A kind may occur several times, for each row that it can be tried on; the greatest counts.
+
+use board_tests::board::Memory;
+use board_tests::model;
+use board_tests::plain::{bits_of, bytes_of, lines, Line};
+use board_tests::trace::{Op, Style, Trace};
+
+#[derive(Clone)]
+pub enum Call {
+    PowerUp,
+    Message(u32, [u8; 8]),
+    Sample(f32, u8, u32, u32),
+    Image,
+}
+
+pub struct Kind {
+    pub name: String,
+    /// "message" for a message that is no command, "command", "sample", "image", "power-up", "sequence" for several messages,
+    /// "trace" for many calls of all sorts.
+    pub family: &'static str,
+    pub memory: Memory,
+    pub calls: Vec<Call>,
+    /// Whether the calls can be made again and again with the same effect, so that their time can be taken.
+    pub repeats: bool,
+}
+
+/// Serves messages on a memory by the independent board, uncounted.
+fn prepare(memory: &mut Memory, messages: &[[u8; 8]]) {
+    for message in messages {
+        let mut answer = [0; 8];
+        model::message(0, message, &mut memory.values, &mut memory.block, &mut memory.state, &mut answer);
+    }
+}
+
+fn fresh() -> Memory {
+    let mut memory = Memory::zero();
+    model::power_up(&mut memory.values, &mut memory.block, &mut memory.state);
+    memory
+}
+
+fn opening(first: u8, line: &Line, rest: [u8; 4]) -> [u8; 8] {
+    let [low, high] = line.index.to_le_bytes();
+    [first, low, high, line.sub, rest[0], rest[1], rest[2], rest[3]]
+}
+
+fn read(line: &Line) -> Vec<[u8; 8]> {
+    let mut messages = vec![opening(0x40, line, [0; 4])];
+    if line.length > 4 {
+        messages.extend((0..line.length.div_ceil(7)).map(|n| [0x60 | (n as u8 % 2) << 4, 0, 0, 0, 0, 0, 0, 0]));
+    }
+    messages
+}
+
+fn write(line: &Line, bytes: &[u8]) -> Vec<[u8; 8]> {
+    if bytes.len() <= 4 {
+        let mut rest = [0; 4];
+        rest[..bytes.len()].copy_from_slice(bytes);
+        return vec![opening(0x23 | (4 - bytes.len() as u8) << 2, line, rest)];
+    }
+    let mut messages = vec![opening(0x21, line, (bytes.len() as u32).to_le_bytes())];
+    let count = bytes.chunks(7).len();
+    for (n, chunk) in bytes.chunks(7).enumerate() {
+        let mut part = [0; 8];
+        part[0] = (n as u8 % 2) << 4 | (7 - chunk.len() as u8) << 1 | (n + 1 == count) as u8;
+        part[1..1 + chunk.len()].copy_from_slice(chunk);
+        messages.push(part);
+    }
+    messages
+}
+
+fn card(levels: [f32; 8]) -> Vec<u8> {
+    let mut bits = bits_of(1, 4);
+    for point in levels.chunks(4) {
+        bits.extend([true, true]);
+        for level in point {
+            bits.extend(bits_of(level.to_bits() as u64, 32));
+        }
+    }
+    bytes_of(&bits)
+}
+
+struct List(Vec<Kind>);
+
+impl List {
+    fn add(&mut self, name: &str, family: &'static str, memory: &Memory, calls: Vec<Call>, repeats: bool) {
+        self.0.push(Kind { name: name.to_string(), family, memory: memory.clone(), calls, repeats });
+    }
+
+    fn one(&mut self, name: &str, family: &'static str, memory: &Memory, message: [u8; 8], repeats: bool) {
+        self.add(name, family, memory, vec![Call::Message(0, message)], repeats);
+    }
+
+    /// Each message of a dialogue by itself: the opening, the parts between, the last.
+    fn each(&mut self, name: &str, family: &'static str, memory: &Memory, messages: &[[u8; 8]]) {
+        let mut memory = memory.clone();
+        for (n, message) in messages.iter().enumerate() {
+            let which = match n {
+                0 => "opening",
+                _ if n + 1 == messages.len() => "last part",
+                _ => "part",
+            };
+            self.one(&format!("{name}, {which}"), family, &memory, *message, false);
+            prepare(&mut memory, &[*message]);
+        }
+    }
+
+    fn all(&mut self, name: &str, memory: &Memory, messages: &[[u8; 8]]) {
+        let calls = messages.iter().map(|message| Call::Message(0, *message)).collect();
+        self.add(name, "sequence", memory, calls, true);
+    }
+}
+
+pub fn kinds() -> Vec<Kind> {
+    let table = lines();
+    let find = |index: u16, sub: u8| table.iter().find(|l| l.index == index && l.sub == sub).unwrap();
+    let the_card = find(0x2010, 0);
+    let label = find(0x2001, 0);
+    let good_card = card([2.0, 0.5, 0.25, 0.125, 20.0, 5.0, 0.5, 0.0625]);
+    let fresh = fresh();
+    let mut list = List(Vec::new());
+
+    for line in &table {
+        if line.length <= 4 {
+            list.one("short read", "message", &fresh, opening(0x40, line, [0; 4]), true);
+        } else {
+            list.each("long read", "message", &fresh, &read(line));
+        }
+        list.one("absent subindex", "message", &fresh, opening(0x40, &Line { sub: 0xFE, ..line.clone() }, [0; 4]), true);
+        let absent = Line { index: line.index + 1, ..line.clone() };
+        if !table.iter().any(|l| l.index == absent.index) {
+            list.one("absent index", "message", &fresh, opening(0x40, &absent, [0; 4]), true);
+            list.one("absent index, written", "message", &fresh, opening(0x2F, &absent, [0; 4]), true);
+        }
+        if line.access == "RO" {
+            list.one("write of a read-only entry", "message", &fresh, opening(0x2F, line, [0; 4]), true);
+            continue;
+        }
+        if line.length < 4 {
+            list.one("expedited write too long", "message", &fresh, opening(0x23, line, [0; 4]), true);
+        }
+        list.one("announced write too long", "message", &fresh, opening(0x21, line, [0xFF; 4]), true);
+        if line.kind == "COMMAND" {
+            continue;
+        }
+        let value = if line.kind == "CARD" { good_card.clone() } else { line.default() };
+        if line.length <= 4 {
+            list.one("expedited write", "message", &fresh, write(line, &value)[0], true);
+            let mut parts = vec![opening(0x21, line, (line.length as u32).to_le_bytes())];
+            let mut part = [0; 8];
+            part[0] = (7 - line.length as u8) << 1 | 1;
+            part[1..1 + line.length].copy_from_slice(&value);
+            parts.push(part);
+            list.each("short entry written in parts", "message", &fresh, &parts);
+            let mut rest = [0xFF; 4];
+            rest[line.length..].fill(0);
+            list.one(
+                "expedited write of FF bytes",
+                "message",
+                &fresh,
+                opening(0x23 | (4 - line.length as u8) << 2, line, rest),
+                false,
+            );
+        } else {
+            list.each("long write", "message", &fresh, &write(line, &value));
+        }
+    }
+
+    // the card: worst in its last part
+    list.all("card read, six messages", &fresh, &read(the_card));
+    list.all("card write, six messages", &fresh, &write(the_card, &good_card));
+    list.each("card write", "message", &fresh, &write(the_card, &good_card));
+    let refused = card([2.0, 0.5, 0.25, 0.125, 20.0, 5.0, 0.5, -1.0]);
+    list.each("card write, last field bad", "message", &fresh, &write(the_card, &refused));
+    list.all("label read, six messages", &fresh, &read(label));
+    list.all("label write, six messages", &fresh, &write(label, &[0x41; 32]));
+    let mut locked = fresh.clone();
+    prepare(&mut locked, &write(find(0x2003, 0), &[1]));
+    list.each("card write under lock", "message", &locked, &write(the_card, &good_card));
+    list.each("label write under lock", "message", &locked, &write(label, &[0x41; 32]));
+
+    list.one("part with no transfer", "message", &fresh, [0x60, 0, 0, 0, 0, 0, 0, 0], true);
+    list.one("write part with no transfer", "message", &fresh, [0, 0, 0, 0, 0, 0, 0, 0], true);
+    list.one("unknown specifier", "message", &fresh, [0xE0, 0, 0, 0, 0, 0, 0, 0], true);
+    list.one("client's abort", "message", &fresh, [0x80, 0, 0, 0, 0, 0, 0, 0], true);
+    let mut open = fresh.clone();
+    prepare(&mut open, &[opening(0x40, the_card, [0; 4])]);
+    list.one("wrong toggle", "message", &open, [0x70, 0, 0, 0, 0, 0, 0, 0], false);
+    let mut written = fresh.clone();
+    prepare(&mut written, &[opening(0x20, label, [0; 4])]);
+    list.one("last part that ends short", "message", &written, [0x0D, 0, 0, 0, 0, 0, 0, 0], false);
+
+    // commands, on blocks that are zero, good, and faulty at the very end
+    let (store, load, exceptions, reset) = (find(0xFBF2, 1), find(0xFBF4, 1), find(0xFBF1, 1), find(0xFBF0, 1));
+    let mut stored = fresh.clone();
+    prepare(&mut stored, &write(the_card, &good_card));
+    prepare(&mut stored, &write(store, b"save"));
+    let mut damaged = stored.clone();
+    damaged.block[511] = 1;
+    let mut outside = fresh.clone();
+    let total = find(0xF840, 3);
+    outside.values[total.place.unwrap()] = 0;
+    list.one("store", "command", &fresh, write(store, b"save")[0], true);
+    list.one("store, refused at the last limit", "command", &outside, write(store, b"save")[0], true);
+    list.one("store, wrong word", "command", &fresh, write(store, b"SAVE")[0], true);
+    list.one("load", "command", &stored, write(load, b"load")[0], true);
+    list.one("load, block faulty at its end", "command", &damaged, write(load, b"load")[0], true);
+    list.one("load, zero block", "command", &fresh, write(load, b"load")[0], true);
+    for (name, memory) in [("good", &stored), ("faulty", &damaged)] {
+        let messages = write(reset, b"teser\0");
+        let mut last = memory.clone();
+        prepare(&mut last, &messages[..1]);
+        list.one(&format!("device reset, last part, block {name}"), "command", &last, messages[1], false);
+    }
+    let messages = write(exceptions, b"teser");
+    let mut last = fresh.clone();
+    prepare(&mut last, &messages[..1]);
+    list.one("exception reset, last part", "command", &last, messages[1], false);
+
+    for (name, memory) in [("zero block", &fresh), ("good block", &stored), ("block faulty at its end", &damaged)] {
+        list.add(&format!("power-up, {name}"), "power-up", memory, vec![Call::PowerUp], true);
+    }
+
+    for pressure in [0.0, 0.1, 0.25, 1.0, 3.0, 1e-9] {
+        list.add("valid sample, all sides enabled", "sample", &stored, vec![Call::Sample(pressure, 1, 0, 1)], true);
+        list.add("valid sample, no side enabled", "sample", &fresh, vec![Call::Sample(pressure, 1, 0, 1)], true);
+    }
+    list.add("sample with faults", "sample", &stored, vec![Call::Sample(0.5, 1, 0xFFFF_FFFF, 1)], true);
+    list.add("sample that is not valid", "sample", &stored, vec![Call::Sample(f32::NAN, 1, 0, 1)], true);
+    list.add("image", "image", &stored, vec![Call::Image], true);
+
+    // each step of some random traces, so that nothing dear is overlooked
+    for seed in 1..=4 {
+        let trace = Trace::random(1000 + seed, Style::FromPowerUp);
+        let mut memory = trace.memory.clone();
+        model::power_up(&mut memory.values, &mut memory.block, &mut memory.state);
+        for op in trace.ops {
+            match op {
+                Op::Message { line, message, .. } => {
+                    let before = memory.clone();
+                    let mut answer = [0; 8];
+                    model::message(line, &message, &mut memory.values, &mut memory.block, &mut memory.state, &mut answer);
+                    // what may be the last message of a command
+                    let sends = message[2] == 0xFB && message[0] >> 5 == 1;
+                    let record = &before.state[96 * line as usize..][..70];
+                    let row = u16::from_le_bytes([record[64], record[65]]) as usize;
+                    let ends = message[0] >> 5 == 0 && table.get(row).is_some_and(|l| l.kind == "COMMAND");
+                    if !sends && !ends {
+                        list.add("any message of a random trace", "message", &before, vec![Call::Message(line, message)], false);
+                    }
+                }
+                Op::Sample { pressure, valid, faults, seconds } => {
+                    let p = f32::from_bits(pressure);
+                    list.add(
+                        "any sample of a random trace",
+                        "sample",
+                        &memory,
+                        vec![Call::Sample(p, valid, faults, seconds)],
+                        false,
+                    );
+                    model::sample(p, valid, faults, seconds, &mut memory.values, &mut memory.state);
+                }
+                _ => (),
+            }
+        }
+    }
+
+    // whole traces in a row, for the time of an average call
+    let mut calls = Vec::new();
+    for seed in 1..=40 {
+        for op in Trace::random(seed, Style::FromPowerUp).ops {
+            match op {
+                Op::PowerUp => calls.push(Call::PowerUp),
+                Op::Message { line, message, .. } => calls.push(Call::Message(line, message)),
+                Op::Sample { pressure, valid, faults, seconds } => {
+                    calls.push(Call::Sample(f32::from_bits(pressure), valid, faults, seconds))
+                }
+                Op::Image { .. } => calls.push(Call::Image),
+                _ => (),
+            }
+        }
+    }
+    let name = format!("{} calls of random traces", calls.len());
+    list.add(&name, "trace", &fresh, calls, true);
+    list.0
+}

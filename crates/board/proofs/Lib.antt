@@ -1,0 +1,6 @@
+pub mod InARow
+pub mod StateLaws
+pub mod Doors
+pub mod Endings
+pub mod Spoken
+pub mod CallLaws

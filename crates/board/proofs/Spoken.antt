@@ -1,0 +1,262 @@
+-- What the code makes of a message is what `speak` says: the reply by value, with its act done on the memory. Assumes nothing.
+use mathlib.Core.Path.{_≡_, refl, sym, ap, ap₂, subst, _∙_}
+use mathlib.Core.Bool.{Bool, true, false, cond, Bool·beq, _&&_}
+use mathlib.Core.List.{List, []}
+use mathlib.Core.Option.{Option, none, some}
+use Prim.Native.Nat.{ℕ, _+_, _<_, _≤_}
+use native.Mathlib.Omega.{arith}
+use lib.Dec.{eqb, ltb, leb}
+use lib.ListN.{length, take, drop}
+use borrow.Author.Tests.{ltb-false, leb-true, ne-eqb}
+use Rattle.order.specs.Talk.{Said, announced, unsaid, own, openRead, openWrite, expedited, Read, value, denied, Sizes, sizes, closed, refused, noTransfer, Outcome, stored, restarted, declined, writeOpened, partTaken}
+use Rattle.order.specs.Gauge.{tooLong, tooShort, narrowed, counted, say}
+use Rattle.table.specs.Row.{RO, WO}
+use Rattle.table.specs.Rows.{at-row, row-count}
+use Rattle.table.specs.Find.{find-row}
+use Rattle.table.specs.Rule.{pick}
+use Rattle.table.specs.declared.Found.{Found}
+use Rattle.table.specs.declared.Found.the-variants.{At, NoIndex, NoSub}
+use Rattle.table.proofs.Table.{find-at, row-found}
+use Rattle.gauge.specs.Gates.{gate, read-gate, write-gate, read-only, write-only, sizes-of, smallest, largest}
+use Rattle.gauge.specs.Memory.{Memory, Store, memory-of, all-off}
+use Rattle.gauge.specs.Whole.{value-of, read-through, read-whole, commit-row, with-trips, commit-through, commit-whole, write-sizes}
+use Rattle.gauge.specs.declared.gate.Gate.{Gate}
+use Rattle.gauge.specs.declared.gate.Gate.the-variants.{Open, Shut}
+use Rattle.gauge.proofs.ValueLaws.{value-length}
+use Rattle.sdo.specs.declared.Key.{Key}
+use Rattle.sdo.specs.declared.Direction.{Direction}
+use Rattle.sdo.specs.declared.Direction.the-variants.{Neither, Reads, Writes}
+use Rattle.sdo.specs.declared.Transfer.{Transfer}
+use Rattle.sdo.specs.declared.Act.{Act}
+use Rattle.sdo.specs.declared.Act.the-variants.{Done, Commit}
+use Rattle.sdo.specs.declared.Reply.{Reply}
+use Rattle.sdo.specs.declared.Message.{Message}
+use Rattle.sdo.specs.declared.Message.the-variants.{SendPart, WriteSized, WriteOwn, OpenAnnounced, OpenUnsaid, OpenRead, NextPart, GiveUp, Unknown}
+use Rattle.sdo.specs.Eight.{messageOf, asked, askOf, answerOf}
+use Rattle.sdo.specs.Records.{Spoken, allZero, keyAt, allows, counts, speak}
+use Rattle.sdo.specs.Replies.{ending, committing, is-reading, is-writing, givenReply, nextPartReply, takenReply, sendPartReply, openReadReply, openWriteBy, openWriteReply, expeditedBy, expeditedReply, filled, concluded, actedBy}
+use Rattle.sdo.specs.Lines.{short}
+use Rattle.sdo.proofs.RecordLaws.{Whole, counts-fits}
+use Rattle.sdo.proofs.ReplyLaws.{ask-is}
+use Rattle.sdo.proofs.SpeakLaws.{speak-next-part, speak-send-part, speak-give-up, speak-unknown, speak-read-denied, speak-write-closed, speak-expedited-closed, speak-open-read, speak-open-write, speak-expedited}
+use Rattle.board.specs.Gauge.{bag552}
+use Rattle.board.specs.Answering.{through, open-read, open-write, reply-to, Acted, Doable, act-by, spoken-by}
+use Rattle.board.specs.Answering as line
+use Rattle.board.proofs.Doors.{Opened, opened}
+
+-- ---- only a whole value of a row that may be written is committed
+
+abbrev pub Writable : Act → Type 0
+Writable Done = Unit {0}
+Writable (Commit row len) = (row < row-count) × (at-row row .access ≡ RO → ⊥) × (len ≡ at-row row .len)
+
+pub writable-doable : (a : Act) → Writable a → Doable a
+writable-doable Done w = tt
+writable-doable (Commit row len) w = (w .0, w .2)
+
+by-pick : (b : Bool) (x y : Reply) → (b ≡ true → Writable (x .act)) → (b ≡ false → Writable (y .act)) → Writable ((pick b x y) .act)
+unfolding pick
+by-pick true x y p q = p refl
+by-pick false x y p q = q refl
+
+next-writable : (t : Transfer) (u : Bool) → Writable ((nextPartReply t u) .act)
+unfolding nextPartReply givenReply
+next-writable t u =
+    by-pick (is-reading (t .direction) && counts t) _ _
+    (λ e. by-pick (Bool·beq (t .toggle) u) _ _ (λ e. by-pick (leb (t .len) (t .place + 7)) _ _ (λ e. tt) (λ e. tt)) (λ e. tt))
+    (λ e. tt)
+
+is-write : (d : Direction) (b : Bool) → (is-writing d && b) ≡ true → (d ≡ Writes) × (b ≡ true)
+unfolding is-writing
+is-write Neither b e = let z : _≡_ {A = ℕ} 0 1 = cc in absurd (omega arith)
+is-write Reads b e = let z : _≡_ {A = ℕ} 0 1 = cc in absurd (omega arith)
+is-write Writes b e = (refl, e)
+
+two-up : (a : ℕ) → allows Writes a ≡ true → a ≡ RO → ⊥
+unfolding allows
+two-up a e q = let h = leb-true 2 a e in omega arith
+
+written-writable : (t : Transfer) → (is-writing (t .direction) && counts t) ≡ true → Writable (Commit (t .row) (t .len))
+written-writable t e =
+    let w = is-write (t .direction) (counts t) e in
+    let f = counts-fits t (w .1) in
+    (f .there, two-up (at-row (t .row) .access) (subst (λ (d : Direction). allows d (at-row (t .row) .access) ≡ true) (w .0) (f .allowed)), f .length-is)
+
+part-writable : (t : Transfer) (u : Bool) (bytes : List ℕ) (last : Bool) → Writable ((sendPartReply t u bytes last) .act)
+unfolding sendPartReply takenReply
+part-writable t u bytes last =
+    by-pick (is-writing (t .direction) && counts t) _ _
+    (λ e. by-pick (Bool·beq (t .toggle) u) _ _
+    (λ e′. by-pick (ltb (t .len) (t .place + length bytes)) _ _ (λ x. tt)
+    (λ x. by-pick last _ _ (λ y. by-pick (ltb (t .place + length bytes) (t .len)) _ _ (λ z. tt) (λ z. written-writable t e)) (λ y. tt)))
+    (λ e′. tt))
+    (λ e. tt)
+
+read-writable : (row : ℕ) (held : List ℕ) (len : ℕ) → Writable ((openReadReply row held len) .act)
+unfolding openReadReply
+read-writable row held len = by-pick (short len) _ _ (λ e. tt) (λ e. tt)
+
+open-writable : (row : ℕ) (said : Said) → Writable ((openWriteReply row said) .act)
+unfolding openWriteReply
+open-writable row said = go (narrowed (at-row row .len) (at-row row .len) said)
+  where
+    go : (z : Sizes) → Writable ((openWriteBy row z) .act)
+    go (sizes low high) = tt
+    go (closed c) = tt
+
+expedited-writable : (row : ℕ) → row < row-count → (at-row row .access ≡ RO → ⊥) → (said : Said) (bytes : List ℕ) → Writable ((expeditedReply row said bytes) .act)
+unfolding expeditedReply expeditedBy narrowed
+expedited-writable row there access said bytes = go said
+  where
+    n : ℕ
+    n = at-row row .len
+
+    commits : (m : ℕ) (low : ℕ) (bs : List ℕ) → m ≡ at-row row .len → Writable ((expeditedBy row (sizes low m) bs) .act)
+    commits m low bs e =
+        by-pick (ltb m (length bs)) _ _ (λ x. tt) (λ x. by-pick (ltb (length bs) low) _ _ (λ y. tt) (λ y. (there, access, e)))
+
+    sized : (k : ℕ) (bs : List ℕ) (d c : Bool) → ltb (at-row row .len) k ≡ d → ltb k (at-row row .len) ≡ c
+        → Writable ((expeditedBy row (cond d (closed tooLong) (cond c (closed tooShort) (sizes k k))) bs) .act)
+    sized k bs true c e f = tt
+    sized k bs false true e f = tt
+    sized k bs false false e f =
+        commits k k bs (let a = ltb-false (at-row row .len) k e in let b = ltb-false k (at-row row .len) f in omega arith)
+
+    go : (s : Said) → Writable ((expeditedReply row s bytes) .act)
+    go (announced k) = sized k (counted (announced k) (at-row row .len) bytes) (ltb (at-row row .len) k) (ltb k (at-row row .len)) refl refl
+    go unsaid = commits (at-row row .len) (at-row row .len) (counted unsaid (at-row row .len) bytes) refl
+    go own = commits (at-row row .len) (at-row row .len) (counted own (at-row row .len) bytes) refl
+
+opening-writable : (said : Message) (m : List ℕ) (row : ℕ) → row < row-count → (at-row row .access ≡ RO → ⊥) → Writable ((open-write said m row) .act)
+unfolding open-write
+opening-writable (WriteSized k n) m row h a = expedited-writable row h a (announced n) (take n (drop 4 m))
+opening-writable (WriteOwn k) m row h a = expedited-writable row h a own (take 4 (drop 4 m))
+opening-writable (OpenAnnounced k n) m row h a = open-writable row (announced n)
+opening-writable (OpenUnsaid k) m row h a = open-writable row unsaid
+opening-writable (SendPart u n last) m row h a = open-writable row unsaid
+opening-writable (OpenRead k) m row h a = open-writable row unsaid
+opening-writable (NextPart u) m row h a = open-writable row unsaid
+opening-writable GiveUp m row h a = open-writable row unsaid
+opening-writable Unknown m row h a = open-writable row unsaid
+
+through-writable : (barred code : ℕ) (k : Key) (f : ℕ → Reply) → ((row : ℕ) → Opened barred (k .index) (k .sub) row → Writable ((f row) .act))
+    → Writable ((through (gate barred code (find-row (k .index) (k .sub))) k f) .act)
+unfolding through
+through-writable barred code k f h = go (gate barred code (find-row (k .index) (k .sub))) refl
+  where
+    go : (g : Gate) → gate barred code (find-row (k .index) (k .sub)) ≡ g → Writable ((through g k f) .act)
+    go (Open row) e = h row (opened barred code (k .index) (k .sub) row (find-row (k .index) (k .sub)) refl e)
+    go (Shut c) e = tt
+
+write-writable : (k : Key) (said : Message) (m : List ℕ) → Writable ((through (write-gate (find-row (k .index) (k .sub))) k (open-write said m)) .act)
+write-writable k said m =
+    through-writable RO read-only k (open-write said m)
+    (λ row o. opening-writable said m row (find-at (k .index) (k .sub) row (o .found) .there) (o .allowed))
+
+-- the reply to any message
+pub reply-writable : (said : Message) (m values : List ℕ) (t : Transfer) → Writable ((reply-to said m values t) .act)
+unfolding reply-to open-read
+reply-writable (SendPart u n last) m values t = part-writable t u (take n (drop 1 m)) last
+reply-writable (WriteSized k n) m values t = write-writable k (WriteSized k n) m
+reply-writable (WriteOwn k) m values t = write-writable k (WriteOwn k) m
+reply-writable (OpenAnnounced k n) m values t = write-writable k (OpenAnnounced k n) m
+reply-writable (OpenUnsaid k) m values t = write-writable k (OpenUnsaid k) m
+reply-writable (OpenRead k) m values t =
+    through-writable WO write-only k (open-read values) (λ row o. read-writable row (filled (value-of (at-row row) values)) (at-row row .len))
+reply-writable (NextPart u) m values t = next-writable t u
+reply-writable GiveUp m values t = tt
+reply-writable Unknown m values t = tt
+
+-- ---- the reply's act on the memory is its act on the gauge
+
+open-gate : (row : ℕ) → row < row-count → (at-row row .access ≡ RO → ⊥) → write-gate (find-row (at-row row .index) (at-row row .sub)) ≡ Open row
+unfolding gate
+open-gate row h a =
+    rw (row-found (at-row row .index) (at-row row .sub) row (record { there = h; index-is = refl; sub-is = refl }), ne-eqb (at-row row .access) RO a)
+
+module _ (g : Store) where
+  concluded-agree : (row : ℕ) (eight : List ℕ) (o : Outcome Memory)
+      → concluded bag552 g (keyAt row) eight (with-trips g o) ≡ spoken-by g (line.concluded (g .memory) row eight o)
+  unfolding concluded with-trips spoken-by line.concluded
+  concluded-agree row eight (stored m) = refl
+  concluded-agree row eight (restarted m) = refl
+  concluded-agree row eight (declined c) = refl
+
+  act-agree : (r : Reply) (a : Act) → Writable a → actedBy bag552 g r a ≡ spoken-by g (act-by (g .memory) r a)
+  unfolding actedBy act-by spoken-by commit-whole commit-through
+  act-agree r Done w = refl
+  act-agree r (Commit row len) w =
+      ap (λ (d : Gate). concluded bag552 g (keyAt row) (r .eight) (commit-through d g (take len (r .next .held)))) (open-gate row (w .0) (w .1))
+      ∙ concluded-agree row (r .eight) (commit-row (at-row row) (take len (r .next .held)) (g .memory))
+
+  -- ---- by what the message says
+
+  module _ (t : Transfer) (m : List ℕ) (whole : Whole t) (sized : length (g .memory .values) ≡ 1024) where
+    abbrev Agrees : Reply → Type 0
+    Agrees r = speak bag552 g t m ≡ actedBy bag552 g r (r .act)
+
+    by-gate : (barred code : ℕ) (k : Key) (f : ℕ → Reply) → ((c : ℕ) → gate barred code (find-row (k .index) (k .sub)) ≡ Shut c → Agrees (ending (answerOf (refused k c))))
+        → ((row : ℕ) → gate barred code (find-row (k .index) (k .sub)) ≡ Open row → find-row (k .index) (k .sub) ≡ At row → Agrees (f row))
+        → Agrees (through (gate barred code (find-row (k .index) (k .sub))) k f)
+    unfolding through
+    by-gate barred code k f shut open-row = go (gate barred code (find-row (k .index) (k .sub))) refl
+      where
+        go : (d : Gate) → gate barred code (find-row (k .index) (k .sub)) ≡ d → Agrees (through d k f)
+        go (Open row) e = open-row row e (opened barred code (k .index) (k .sub) row (find-row (k .index) (k .sub)) refl e .found)
+        go (Shut c) e = shut c e
+
+    closed-by : (k : Key) (c : ℕ) → write-gate (find-row (k .index) (k .sub)) ≡ Shut c → write-sizes (k .index) (k .sub) ≡ closed c
+    unfolding write-sizes sizes-of
+    closed-by k c e = ap sizes-of e
+
+    sized-by : (k : Key) (row : ℕ) → write-gate (find-row (k .index) (k .sub)) ≡ Open row → write-sizes (k .index) (k .sub) ≡ sizes (at-row row .len) (at-row row .len)
+    unfolding write-sizes sizes-of smallest largest
+    sized-by k row e = ap sizes-of e
+
+    whole-write : (k : Key) (said : Said) (bytes : List ℕ) (f : ℕ → Reply) → ((row : ℕ) → f row ≡ expeditedReply row said bytes) → askOf m ≡ expedited k said bytes
+        → Agrees (through (write-gate (find-row (k .index) (k .sub))) k f)
+    whole-write k said bytes f is ask =
+        by-gate RO read-only k f (λ c e. speak-expedited-closed bag552 g t m k said bytes c ask (closed-by k c e))
+        (λ row e found. subst Agrees (sym (is row)) (speak-expedited bag552 g t m k row found said bytes ask (sized-by k row e)))
+
+    parted-write : (k : Key) (n : Option ℕ) (f : ℕ → Reply) → ((row : ℕ) → f row ≡ openWriteReply row (say n)) → askOf m ≡ openWrite k n []
+        → Agrees (through (write-gate (find-row (k .index) (k .sub))) k f)
+    parted-write k n f is ask =
+        by-gate RO read-only k f (λ c e. speak-write-closed bag552 g t m k n [] c ask (closed-by k c e))
+        (λ row e found. subst Agrees (sym (is row)) (speak-open-write bag552 g t m k row found n ask (sized-by k row e)))
+
+    whole-read : (k : Key) → askOf m ≡ openRead k → Agrees (through (read-gate (find-row (k .index) (k .sub))) k (open-read (g .memory .values)))
+    unfolding read-whole read-through open-read
+    whole-read k ask =
+        by-gate WO write-only k (open-read (g .memory .values))
+        (λ c e. speak-read-denied bag552 g t m k c ask (ap (λ (d : Gate). read-through d (g .memory .values)) e))
+        (λ row e found.
+        let n = value-length row (find-at (k .index) (k .sub) row found .there) (g .memory .values) sized in
+        subst (λ (l : ℕ). Agrees (openReadReply row (filled (value-of (at-row row) (g .memory .values))) l)) n
+        (speak-open-read bag552 g t m k row found (value-of (at-row row) (g .memory .values)) ask (ap (λ (d : Gate). read-through d (g .memory .values)) e)))
+
+    agrees : (said : Message) → messageOf m ≡ said → (said ≡ GiveUp → ⊥) → Agrees (reply-to said m (g .memory .values) t)
+    unfolding asked reply-to open-write
+    agrees (SendPart u n last) e d = speak-send-part bag552 g t m u (take n (drop 1 m)) last (ask-is m (SendPart u n last) e) whole
+    agrees (WriteSized k n) e d = whole-write k (announced n) (take n (drop 4 m)) (open-write (WriteSized k n) m) (λ row. refl) (ask-is m (WriteSized k n) e)
+    agrees (WriteOwn k) e d = whole-write k own (take 4 (drop 4 m)) (open-write (WriteOwn k) m) (λ row. refl) (ask-is m (WriteOwn k) e)
+    agrees (OpenAnnounced k n) e d = parted-write k (some n) (open-write (OpenAnnounced k n) m) (λ row. refl) (ask-is m (OpenAnnounced k n) e)
+    agrees (OpenUnsaid k) e d = parted-write k none (open-write (OpenUnsaid k) m) (λ row. refl) (ask-is m (OpenUnsaid k) e)
+    agrees (OpenRead k) e d = whole-read k (ask-is m (OpenRead k) e)
+    agrees (NextPart u) e d = speak-next-part bag552 g t m u (ask-is m (NextPart u) e) whole
+    agrees GiveUp e d = absurd (d refl)
+    agrees Unknown e d = speak-unknown bag552 g t m (ask-is m Unknown e)
+
+    -- THE LAW that the call's promise cites
+    pub speak-is : (said : Message) → messageOf m ≡ said → (said ≡ GiveUp → ⊥)
+        → speak bag552 g t m ≡ spoken-by g (act-by (g .memory) (reply-to said m (g .memory .values) t) ((reply-to said m (g .memory .values) t) .act))
+    speak-is said e d =
+        agrees said e d ∙ act-agree (reply-to said m (g .memory .values) t) ((reply-to said m (g .memory .values) t) .act) (reply-writable said m (g .memory .values) t)
+
+    pub given-up : messageOf m ≡ GiveUp → speak bag552 g t m ≡ record { store = g; next = allZero; reset = false; bytes = [] }
+    unfolding asked
+    given-up e = speak-give-up bag552 g t m (ask-is m GiveUp e)
+
+pub reply-doable : (said : Message) (m values : List ℕ) (t : Transfer) (r : Reply) → r ≡ reply-to said m values t → Doable (r .act)
+reply-doable said m values t r e =
+    subst (λ (q : Reply). Doable (q .act)) (sym e) (writable-doable ((reply-to said m values t) .act) (reply-writable said m values t))

@@ -1,0 +1,113 @@
+-- The reply to a message, by what it says, as the code makes it; `speak` of crate sdo is what the calls are held to, and
+-- proofs/Spoken.antt shows that the two agree. Assumes nothing.
+use mathlib.Core.List.{List, []}
+use mathlib.Core.Option.{none, some}
+use mathlib.Core.Bool.{Bool, true, false, cond}
+use mathlib.Core.Path.{_≡_}
+use Prim.Native.Nat.{ℕ, _<_}
+use lib.ListN.{length, take, drop}
+use Rattle.order.specs.Talk.{announced, unsaid, own, refused, noTransfer, Outcome, stored, restarted, declined}
+use Rattle.table.specs.Rows.{at-row, row-count}
+use Rattle.table.specs.Find.{find-row}
+use Rattle.gauge.specs.Gates.{read-gate, write-gate}
+use Rattle.gauge.specs.Memory.{Memory, Store, memory-of, all-off}
+use Rattle.gauge.specs.Whole.{value-of, commit-row}
+use Rattle.gauge.specs.declared.gate.Gate.{Gate}
+use Rattle.gauge.specs.declared.gate.Gate.the-variants.{Open, Shut}
+use Rattle.sdo.specs.declared.Key.{Key}
+use Rattle.sdo.specs.declared.Transfer.{Transfer}
+use Rattle.sdo.specs.declared.Act.{Act}
+use Rattle.sdo.specs.declared.Act.the-variants.{Done, Commit}
+use Rattle.sdo.specs.declared.Reply.{Reply}
+use Rattle.sdo.specs.declared.Message.{Message}
+use Rattle.sdo.specs.declared.Message.the-variants.{SendPart, WriteSized, WriteOwn, OpenAnnounced, OpenUnsaid, OpenRead, NextPart, GiveUp, Unknown}
+use Rattle.board.specs.declared.line.Told.{Told}
+use Rattle.sdo.specs.Eight.{answerOf}
+use Rattle.sdo.specs.Records.{allZero, keyAt, Spoken}
+use Rattle.sdo.specs.Replies.{ending, nextPartReply, sendPartReply, filled, openReadReply, openWriteReply, expeditedReply}
+
+-- a gate that is shut answers with its code
+unfoldable pub through : Gate → Key → (ℕ → Reply) → Reply
+through (Open row) k opening = opening row
+through (Shut code) k opening = ending (answerOf (refused k code))
+
+abbrev pub to-write : Key → (ℕ → Reply) → Reply
+to-write k opening = through (write-gate (find-row (k .index) (k .sub))) k opening
+
+-- a read is opened: the value as it is now
+unfoldable pub open-read : List ℕ → ℕ → Reply
+open-read values row = openReadReply row (filled (value-of (at-row row) values)) (at-row row .len)
+
+-- a write is opened on its row: with the value in the message or without, with a length or not
+unfoldable pub open-write : Message → List ℕ → ℕ → Reply
+open-write (WriteSized k n) m row = expeditedReply row (announced n) (take n (drop 4 m))
+open-write (WriteOwn k) m row = expeditedReply row own (take 4 (drop 4 m))
+open-write (OpenAnnounced k n) m row = openWriteReply row (announced n)
+open-write (OpenUnsaid k) m row = openWriteReply row unsaid
+open-write (SendPart u n last) m row = openWriteReply row unsaid
+open-write (OpenRead k) m row = openWriteReply row unsaid
+open-write (NextPart u) m row = openWriteReply row unsaid
+open-write GiveUp m row = openWriteReply row unsaid
+open-write Unknown m row = openWriteReply row unsaid
+
+-- the reply to a message that is not the client's abort
+unfoldable pub reply-to : Message → List ℕ → List ℕ → Transfer → Reply
+reply-to (SendPart u n last) m values t = sendPartReply t u (take n (drop 1 m)) last
+reply-to (WriteSized k n) m values t = to-write k (open-write (WriteSized k n) m)
+reply-to (WriteOwn k) m values t = to-write k (open-write (WriteOwn k) m)
+reply-to (OpenAnnounced k n) m values t = to-write k (open-write (OpenAnnounced k n) m)
+reply-to (OpenUnsaid k) m values t = to-write k (open-write (OpenUnsaid k) m)
+reply-to (OpenRead k) m values t = through (read-gate (find-row (k .index) (k .sub))) k (open-read values)
+reply-to (NextPart u) m values t = nextPartReply t u
+reply-to GiveUp m values t = ending (answerOf noTransfer)
+reply-to Unknown m values t = ending (answerOf noTransfer)
+
+-- what is left when the reply's act is done: the memory, the line's record, whether all transfers are dropped, the answer
+pub record Acted : Type 0 where
+  pub values : List ℕ
+  pub block : List ℕ
+  pub next : Transfer
+  pub reset : Bool
+  pub eight : List ℕ
+
+abbrev pub acted : Memory → Transfer → Bool → List ℕ → Acted
+acted m next reset eight = record { values = m .values; block = m .block; next = next; reset = reset; eight = eight }
+
+abbrev pub left : Told → List ℕ → List ℕ → Acted
+left t values block = record { values = values; block = block; next = t .next; reset = t .reset; eight = t .eight }
+
+-- only a whole value of a row is committed
+abbrev pub Doable : Act → Type 0
+Doable Done = Unit {0}
+Doable (Commit row len) = (row < row-count) × (len ≡ at-row row .len)
+
+unfoldable pub concluded : Memory → ℕ → List ℕ → Outcome Memory → Acted
+concluded m row eight (stored n) = acted n allZero false eight
+concluded m row eight (restarted n) = acted n allZero true eight
+concluded m row eight (declined code) = acted m allZero false (answerOf (refused (keyAt row) code))
+
+unfoldable pub act-by : Memory → Reply → Act → Acted
+act-by m r Done = acted m (r .next) false (r .eight)
+act-by m r (Commit row len) = concluded m row (r .eight) (commit-row (at-row row) (take len (r .next .held)) m)
+
+-- the same as `speak` says it, with the trip states: "trips off" after a device reset
+unfoldable pub spoken-by : Store → Acted → Spoken Store
+spoken-by g a =
+    record {
+      store = record { memory = memory-of (a .values) (a .block); trips = cond (a .reset) all-off (g .trips) };
+      next = a .next;
+      reset = a .reset;
+      bytes = a .eight;
+    }
+
+-- is it the client's abort?
+unfoldable pub is-abort : Message → Bool
+is-abort (SendPart u n last) = false
+is-abort (WriteSized k n) = false
+is-abort (WriteOwn k) = false
+is-abort (OpenAnnounced k n) = false
+is-abort (OpenUnsaid k) = false
+is-abort (OpenRead k) = false
+is-abort (NextPart u) = false
+is-abort GiveUp = true
+is-abort Unknown = false

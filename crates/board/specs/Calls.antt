@@ -1,0 +1,126 @@
+-- THE PROMISES OF THE BOARD'S CALLS: each returned number, every byte of what was lent, on all inputs. Assumes nothing.
+use mathlib.Core.Bool.{Bool, true, false, cond, _&&_}
+use mathlib.Core.List.{List, [], _∷_}
+use mathlib.Core.Path.{_≡_}
+use Prim.Native.Nat.{ℕ, _+_, _≤_}
+use lib.Dec.{eqb, leb, ltb}
+use lib.Ieee.{Float}
+use lib.ListN.{length}
+use Rattle.wire.specs.Splice.{splice}
+use Rattle.sample.specs.Image.{image-of}
+use Rattle.gauge.specs.Memory.{Memory, Store, memory-of, all-off}
+use Rattle.gauge.specs.PowerUp.{fresh-values}
+use Rattle.sdo.specs.declared.Transfer.{Transfer}
+use Rattle.sdo.specs.Records.{Spoken, allZero, speak}
+use Rattle.board.specs.State.{record-place, record-at, record-bytes, trips-place, trips-at, trips-bytes}
+use Rattle.board.specs.Gauge.{Sample, sampled, bag552}
+
+-- ---- what the lent bytes say
+
+abbrev pub store-of : List ℕ → List ℕ → List ℕ → Store
+store-of values block state = record { memory = memory-of values block; trips = trips-at state }
+
+-- "values not 1,024 or block not 512 bytes"; "another length [of the state] is number 4"
+unfoldable pub sized : List ℕ → List ℕ → List ℕ → Bool
+sized values block state = eqb (length values) 1024 && (eqb (length block) 512 && eqb (length state) 256)
+
+-- ---- gauge_message
+
+pub record Called : Type 0 where
+  pub number : ℕ
+  pub values : List ℕ
+  pub block : List ℕ
+  pub state : List ℕ
+  pub answer : List ℕ
+
+abbrev pub called : ℕ → List ℕ → List ℕ → List ℕ → List ℕ → Called
+called number values block state answer = record { number = number; values = values; block = block; state = state; answer = answer }
+
+-- "client's abort taken (no refusal)" is 5, "answered or done" is 0
+unfoldable pub number-by : List ℕ → ℕ
+number-by [] = 5
+number-by (b ∷ bytes) = 0
+
+-- "Device reset answers, then does power-up and drops both lines' transfers"; a message leaves all else of the state
+unfoldable pub dropped : List ℕ → List ℕ
+dropped state = splice (splice (splice state 0 (record-bytes allZero)) 96 (record-bytes allZero)) trips-place (trips-bytes all-off)
+
+unfoldable pub settled : ℕ → Transfer → Bool → List ℕ → List ℕ
+settled at next reset state = cond reset (dropped state) (splice state at (record-bytes next))
+
+abbrev pub state-after : ℕ → Spoken Store → List ℕ → List ℕ
+state-after line s state = settled (record-place line) (s .next) (s .reset) state
+
+-- what the message call lends when it serves
+pub record Lent (m values block state answer : List ℕ) : Type 0 where
+  pub message-long : length m ≡ 8
+  pub values-long : length values ≡ 1024
+  pub block-long : length block ≡ 512
+  pub state-long : length state ≡ 256
+  pub room : 8 ≤ length answer
+
+-- the message is served: "eight bytes .. written, later bytes untouched", or for an abort "answer room untouched"
+unfoldable pub served : ℕ → Spoken Store → List ℕ → List ℕ → Called
+served line s state answer =
+    called (number-by (s .bytes)) (s .store .memory .values) (s .store .memory .block) (state-after line s state) (splice answer 0 (s .bytes))
+
+-- "Tested in the order 4, 3, 2, 1": "nothing changed or written"
+unfoldable pub message-call : ℕ → List ℕ → List ℕ → List ℕ → List ℕ → List ℕ → Called
+message-call line m values block state answer =
+    cond (sized values block state)
+    (cond (leb line 1)
+    (cond (leb 8 (length answer))
+    (cond (eqb (length m) 8)
+    (served line (speak bag552 (store-of values block state) (record-at state (record-place line)) m) state answer)
+    (called 1 values block state answer))
+    (called 2 values block state answer))
+    (called 3 values block state answer))
+    (called 4 values block state answer)
+
+-- ---- gauge_power_up
+
+pub record Powered : Type 0 where
+  pub number : ℕ
+  pub values : List ℕ
+  pub block : List ℕ
+  pub state : List ℕ
+
+abbrev pub powered : ℕ → List ℕ → List ℕ → List ℕ → Powered
+powered number values block state = record { number = number; values = values; block = block; state = state }
+
+-- "trips off, .. both transfer records all zero whatever they held"
+unfoldable pub power-up-call : List ℕ → List ℕ → List ℕ → Powered
+power-up-call values block state =
+    cond (sized values block state) (powered 0 (fresh-values block) block (dropped state)) (powered 4 values block state)
+
+-- ---- gauge_sample
+
+pub record Fed : Type 0 where
+  pub number : ℕ
+  pub values : List ℕ
+  pub state : List ℕ
+
+abbrev pub fed : ℕ → List ℕ → List ℕ → Fed
+fed number values state = record { number = number; values = values; state = state }
+
+unfoldable pub fed-by : Store → List ℕ → Fed
+fed-by g state = fed 0 (g .memory .values) (splice state trips-place (trips-bytes (g .trips)))
+
+unfoldable pub sample-call : Float → ℕ → ℕ → ℕ → List ℕ → List ℕ → Fed
+sample-call pressure valid faults seconds values state =
+    cond (eqb (length values) 1024 && eqb (length state) 256)
+    (fed-by (sampled (store-of values [] state) (record { pressure = pressure; valid = valid; faults = faults; seconds = seconds })) state)
+    (fed 4 values state)
+
+-- ---- gauge_image
+
+pub record Shown : Type 0 where
+  pub number : ℕ
+  pub image : List ℕ
+
+abbrev pub shown : ℕ → List ℕ → Shown
+shown number image = record { number = number; image = image }
+
+unfoldable pub image-call : List ℕ → List ℕ → Shown
+image-call values image =
+    cond (eqb (length values) 1024) (cond (leb 10 (length image)) (shown 0 (splice image 0 (image-of values))) (shown 2 image)) (shown 4 image)

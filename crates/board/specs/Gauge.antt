@@ -1,0 +1,32 @@
+-- THE BOARD'S GAUGE: the plain gauge by its entries, as the lines are served with it. Assumes nothing.
+use Prim.Native.Nat.{ℕ}
+use lib.Ieee.{Float}
+use Rattle.sample.specs.Sample.{values-after, trips-after}
+use Rattle.sdo.specs.Lines.{Entries}
+use Rattle.gauge.specs.Memory.{Memory, Store, with-values}
+use Rattle.gauge.specs.Whole.{read-whole, commit-whole, write-sizes}
+
+-- "A sample has pressure (REAL), valid flag (0 is not valid, else valid), fault word, seconds since power-on"
+pub record Sample : Type 0 where
+  pub pressure : Float
+  pub valid : ℕ
+  pub faults : ℕ
+  pub seconds : ℕ
+
+unfoldable pub sampled : Store → Sample → Store
+sampled g s =
+    record {
+      memory = with-values (g .memory) (values-after (g .memory .values) (g .trips) (s .pressure) (s .valid) (s .faults) (s .seconds));
+      trips = trips-after (g .memory .values) (g .trips) (s .pressure) (s .valid);
+    }
+
+abbrev pub bag552 : Entries
+bag552 =
+    record {
+      Store = Store;
+      Sample = Sample;
+      readWhole = λ g k. read-whole g (k .index) (k .sub);
+      rowOf = λ k. write-sizes (k .index) (k .sub);
+      commit = λ g k bytes. commit-whole g (k .index) (k .sub) bytes;
+      sampled = sampled;
+    }

@@ -1,0 +1,4 @@
+pub mod State
+pub mod Gauge
+pub mod Answering
+pub mod Calls

@@ -1,0 +1,57 @@
+-- A whole read gives as many bytes as its row says. Assumes nothing.
+use mathlib.Core.Path.{_≡_, refl, sym, ap, subst, _∙_}
+use mathlib.Core.Bool.{Bool, true, false}
+use mathlib.Core.List.{List}
+use mathlib.Core.Logic.{_⊎_, inl, inr}
+use Prim.Native.Nat.{ℕ, _<_, _≤_}
+use native.Mathlib.Omega.{arith}
+use lib.Dec.{T, eqb, eqb→eq}
+use lib.ListN.{length}
+use borrow.Author.Tests.{eqb-true, eqb-false, eq-eqb}
+use Rattle.table.specs.Row.{Row, no-row, CARD, COMMAND}
+use Rattle.table.specs.Rows.{rows, row-count, at-row}
+use Rattle.table.specs.Walk.{every}
+use Rattle.table.specs.Rule.{pick, held}
+use Rattle.table.proofs.Walks.{every-at}
+use Rattle.table.proofs.Table.{row-rule, rows-length}
+use Rattle.entry.specs.Entry.{entry-of}
+use Rattle.entry.proofs.EntryLaws.{entry-length}
+use Rattle.card.specs.Card.{card-of}
+use Rattle.card.proofs.Made.{length-card}
+use Rattle.gauge.specs.Words.{command-at, read-word}
+use Rattle.gauge.specs.Whole.{value-of}
+use Rattle.gauge.proofs.CommitLaws.{of-card, of-command, of-other, card-length, other-held}
+
+-- computed once over the table: a command word's printed value has the row's length
+word-fits : Row → Bool
+word-fits r = pick (eqb (r .kind) COMMAND) (eqb (length (read-word (command-at (r .index)))) (r .len)) true
+
+words-fit : T (every word-fits rows)
+unfolding every word-fits pick rows read-word command-at
+words-fit = tt
+
+word-length : (k : ℕ) → k < row-count → at-row k .kind ≡ COMMAND → length (read-word (command-at (at-row k .index))) ≡ at-row k .len
+unfolding word-fits pick
+word-length k h e = eqb→eq _ _ (rw e at (every-at word-fits rows no-row words-fit k (omega (arith, rows-length))))
+
+is-it : (a b : ℕ) → (a ≡ b) ⊎ (a ≡ b → ⊥)
+is-it a b = go (eqb a b) refl
+  where
+    go : (d : Bool) → eqb a b ≡ d → (a ≡ b) ⊎ (a ≡ b → ⊥)
+    go true e = inl (eqb-true a b e)
+    go false e = inr (eqb-false a b e)
+
+pub value-length : (k : ℕ) → k < row-count → (values : List ℕ) → length values ≡ 1024 → length (value-of (at-row k) values) ≡ at-row k .len
+unfolding value-of
+value-length k h values n = go (is-it (at-row k .kind) CARD) (is-it (at-row k .kind) COMMAND)
+  where
+    go : (at-row k .kind ≡ CARD) ⊎ (at-row k .kind ≡ CARD → ⊥) → (at-row k .kind ≡ COMMAND) ⊎ (at-row k .kind ≡ COMMAND → ⊥) → length (value-of (at-row k) values) ≡ at-row k .len
+    go (inl c) d =
+        ap length (of-card (at-row k) (at-row k .kind) refl (card-of values) (read-word (command-at (at-row k .index))) (entry-of (at-row k) values) c)
+        ∙ length-card values ∙ sym (card-length k h c)
+    go (inr c) (inl d) =
+        ap length (of-command (at-row k) (at-row k .kind) refl (card-of values) (read-word (command-at (at-row k .index))) (entry-of (at-row k) values) d)
+        ∙ word-length k h d
+    go (inr c) (inr d) =
+        ap length (of-other (at-row k) (at-row k .kind) refl (card-of values) (read-word (command-at (at-row k .index))) (entry-of (at-row k) values) c d)
+        ∙ entry-length (at-row k) values (let i = row-rule k h .inside in omega arith) ∙ other-held k h c d

@@ -1,0 +1,308 @@
+/* The board as C firmware calls it: power-up, document 01's examples, refusals, samples and the image. Every buffer stands between
+ * guard bytes. Prints what fails; the exit status is 0 if nothing does. */
+#include "gauge.h"
+
+#include <stdio.h>
+#include <string.h>
+
+#define GUARD 32u
+#define FILL 0xC3u
+
+static unsigned checks, failures;
+
+static void check(int good, const char *what, int line)
+{
+    checks++;
+    if (!good) {
+        failures++;
+        printf("gauge_test.c:%d: %s\n", line, what);
+    }
+}
+
+#define CHECK(good) check((good) != 0, #good, __LINE__)
+
+/* what is lent, each part between guards */
+static struct {
+    uint8_t guard0[GUARD];
+    uint8_t values[GAUGE_VALUES_SIZE];
+    uint8_t guard1[GUARD];
+    uint8_t block[GAUGE_BLOCK_SIZE];
+    uint8_t guard2[GUARD];
+    uint8_t state[GAUGE_STATE_SIZE];
+    uint8_t guard3[GUARD];
+    uint8_t answer[GAUGE_ANSWER_SIZE + 8u];
+    uint8_t guard4[GUARD];
+} board, before;
+
+static int same(const uint8_t *a, const uint8_t *b, size_t n)
+{
+    return memcmp(a, b, n) == 0;
+}
+
+static int all(const uint8_t *bytes, size_t n, uint8_t value)
+{
+    size_t i;
+    for (i = 0; i < n; i++) {
+        if (bytes[i] != value) {
+            return 0;
+        }
+    }
+    return 1;
+}
+
+static int guards_hold(void)
+{
+    return all(board.guard0, GUARD, 0xA1) && all(board.guard1, GUARD, 0xA2) && all(board.guard2, GUARD, 0xA3) &&
+           all(board.guard3, GUARD, 0xA4) && all(board.guard4, GUARD, 0xA5);
+}
+
+/* power-up on a zero block, whatever the memory held */
+static void start(void)
+{
+    memset(&board, 0x66, sizeof board);
+    memset(board.guard0, 0xA1, GUARD);
+    memset(board.guard1, 0xA2, GUARD);
+    memset(board.guard2, 0xA3, GUARD);
+    memset(board.guard3, 0xA4, GUARD);
+    memset(board.guard4, 0xA5, GUARD);
+    memset(board.block, 0, sizeof board.block);
+    CHECK(gauge_power_up(board.values, sizeof board.values, board.block, sizeof board.block, board.state, sizeof board.state) ==
+          GAUGE_DONE);
+    CHECK(guards_hold());
+}
+
+static uint32_t send(uint32_t line, const uint8_t message[8], size_t room)
+{
+    memset(board.answer, FILL, sizeof board.answer);
+    return gauge_message(line, message, GAUGE_MESSAGE_SIZE, board.values, sizeof board.values, board.block, sizeof board.block,
+                         board.state, sizeof board.state, board.answer, room);
+}
+
+static void unhex(const char *text, uint8_t bytes[8])
+{
+    unsigned n = 0, byte;
+    memset(bytes, 0, 8);
+    while (n < 8 && sscanf(text, "%2x", &byte) == 1) {
+        bytes[n++] = (uint8_t)byte;
+        text += 2;
+        while (*text == ' ') {
+            text++;
+        }
+    }
+}
+
+/* a message and the answer it must get, with zeros behind what is shown */
+static void talk(uint32_t line, const char *message, const char *answer, int source)
+{
+    uint8_t in[8], out[8];
+    uint32_t number;
+    unhex(message, in);
+    unhex(answer, out);
+    number = send(line, in, GAUGE_ANSWER_SIZE);
+    check(number == GAUGE_DONE && same(board.answer, out, 8), message, source);
+    check(all(board.answer + 8, 8, FILL), "later bytes of the room untouched", source);
+    check(guards_hold(), "guard bytes", source);
+}
+
+#define TALK(line, message, answer) talk(line, message, answer, __LINE__)
+
+static void power_up(void)
+{
+    size_t i;
+    start();
+    CHECK(all(board.state, 70, 0) && all(board.state + 96, 70, 0) && all(board.state + 192, 4, 0));
+    /* spare bytes are never written */
+    CHECK(all(board.state + 70, 26, 0x66) && all(board.state + 166, 26, 0x66) && all(board.state + 196, 60, 0x66));
+    CHECK(all(board.block, sizeof board.block, 0));
+    /* device type 0000138B first, bytes of no entry zero */
+    CHECK(board.values[0] == 0x8B && board.values[1] == 0x13 && board.values[2] == 0 && board.values[3] == 0);
+    for (i = 599; i < sizeof board.values; i++) {
+        CHECK(board.values[i] == 0);
+    }
+}
+
+static void examples(void)
+{
+    int i;
+    start();
+    TALK(0, "40 03 20 00", "4F 03 20 00");                         /* A */
+    TALK(0, "2F 03 20 00 01", "60 03 20 00");                      /* B */
+    TALK(1, "40 03 20 00", "4F 03 20 00 01");
+    TALK(0, "2F 03 20 00 02", "80 03 20 00 31 00 09 06");          /* C */
+    TALK(0, "40 03 20 01", "80 03 20 01 11 00 09 06");             /* D */
+    TALK(0, "40 04 20 00", "80 04 20 00 00 00 02 06");             /* E */
+    TALK(0, "60", "80 00 00 00 01 00 04 05");                      /* F */
+    TALK(0, "23 F4 FB 01 6C 6F 61 64", "80 F4 FB 01 22 00 00 08"); /* I */
+    TALK(0, "40 10 20 00", "41 10 20 00 21");                      /* G */
+    TALK(0, "70", "80 10 20 00 00 00 03 05");
+    TALK(0, "21 10 20 00 22", "80 10 20 00 12 00 07 06"); /* H */
+    TALK(0, "21 10 20 00 20", "80 10 20 00 13 00 07 06");
+    TALK(0, "21 10 20 00 21", "60 10 20 00");
+
+    start(); /* J */
+    TALK(0, "40 01 20 00", "41 01 20 00 20");
+    TALK(0, "60", "00");
+    TALK(1, "21 01 20 00 20", "60 01 20 00");
+    for (i = 0; i < 4; i++) {
+        TALK(1, i % 2 ? "10 41 41 41 41 41 41 41" : "00 41 41 41 41 41 41 41", i % 2 ? "30" : "20");
+    }
+    TALK(1, "07 41 41 41 41", "20");
+    TALK(0, "70", "10");
+    TALK(0, "60", "00");
+    TALK(0, "70", "10");
+    TALK(0, "60", "07");
+    TALK(0, "40 01 20 00", "41 01 20 00 20");
+    for (i = 0; i < 4; i++) {
+        TALK(0, i % 2 ? "70" : "60", i % 2 ? "10 41 41 41 41 41 41 41" : "00 41 41 41 41 41 41 41");
+    }
+    TALK(0, "60", "07 41 41 41 41");
+}
+
+static uint32_t sample(float pressure, uint8_t valid, uint32_t faults, uint32_t seconds)
+{
+    return gauge_sample(pressure, valid, faults, seconds, board.values, sizeof board.values, board.state, sizeof board.state);
+}
+
+/* example K, and the image beside it */
+static void samples(void)
+{
+    static const struct {
+        float pressure;
+        uint8_t on;
+        uint8_t image[10];
+    } steps[] = {
+        {0.5f, 0, {1, 0, 0, 0, 0x3F, 0, 0, 0, 0, 0}},
+        {0.25f, 1, {1, 0, 0, 0x80, 0x3E, 0, 2, 0, 0, 0}},
+        {0.625f, 1, {1, 0, 0, 0x20, 0x3F, 0, 2, 0, 0, 0}},
+        {0.75f, 0, {1, 0, 0, 0x40, 0x3F, 0, 0, 0, 0, 0}},
+    };
+    uint8_t image[GAUGE_IMAGE_SIZE + 6u];
+    size_t i;
+    start();
+    TALK(0, "2F 0E 80 02 01", "60 0E 80 02");
+    TALK(0, "23 0E 80 14 00 00 00 3F", "60 0E 80 14");
+    TALK(0, "23 0E 80 18 00 00 00 3E", "60 0E 80 18");
+    for (i = 0; i < sizeof steps / sizeof steps[0]; i++) {
+        CHECK(sample(steps[i].pressure, 1, 0, 7) == GAUGE_DONE);
+        CHECK(board.state[192] == 0 && board.state[193] == steps[i].on && board.state[194] == 0 && board.state[195] == 0);
+        memset(image, FILL, sizeof image);
+        CHECK(gauge_image(board.values, sizeof board.values, image, sizeof image) == GAUGE_DONE);
+        CHECK(same(image, steps[i].image, GAUGE_IMAGE_SIZE));
+        CHECK(all(image + GAUGE_IMAGE_SIZE, 6, FILL));
+        CHECK(guards_hold());
+    }
+    TALK(1, "40 10 20 00", "41 10 20 00 21");
+    TALK(1, "60", "00 14");
+    TALK(1, "70", "10 00 00 FC 00 00 00 F8");
+    TALK(1, "60", "00");
+    TALK(1, "70", "10");
+    TALK(1, "60", "05");
+    /* not valid: the input value stays, reading valid is 0, the trips are off, the faults are seen */
+    CHECK(sample(0.25f, 1, 0, 8) == GAUGE_DONE && board.state[193] == 1);
+    CHECK(sample(0.125f, 0, 0xFFFFFFFFu, 9) == GAUGE_DONE && board.state[193] == 0);
+    TALK(0, "40 00 60 11", "43 00 60 11 00 00 80 3E");
+    TALK(0, "40 05 60 01", "4F 05 60 01");
+    TALK(0, "40 83 F3 01", "43 83 F3 01 03 06");
+    TALK(0, "40 80 F3 00", "4F 80 F3 00 04");
+    TALK(0, "40 F6 F9 00", "43 F6 F9 00 09");
+    /* wrong lengths */
+    before = board;
+    CHECK(gauge_sample(0.5f, 1, 0, 1, board.values, sizeof board.values - 1, board.state, sizeof board.state) == GAUGE_BAD_MEMORY);
+    CHECK(gauge_sample(0.5f, 1, 0, 1, board.values, sizeof board.values, board.state, sizeof board.state - 1) == GAUGE_BAD_MEMORY);
+    memset(image, FILL, sizeof image);
+    CHECK(gauge_image(board.values, sizeof board.values, image, GAUGE_IMAGE_SIZE - 1u) == GAUGE_SHORT_ROOM);
+    CHECK(gauge_image(board.values, sizeof board.values - 1, image, GAUGE_IMAGE_SIZE - 1u) == GAUGE_BAD_MEMORY);
+    CHECK(all(image, sizeof image, FILL));
+    CHECK(same((const uint8_t *)&before, (const uint8_t *)&board, sizeof board));
+}
+
+/* store, load and device reset */
+static void commands(void)
+{
+    start();
+    TALK(0, "2F 0E 80 02 01", "60 0E 80 02");
+    TALK(0, "23 F2 FB 01 73 61 76 65", "60 F2 FB 01");
+    CHECK(board.block[0] == 0x11);
+    TALK(0, "40 F2 FB 02", "4F F2 FB 02");
+    TALK(0, "2F 0E 80 02 00", "60 0E 80 02");
+    TALK(1, "23 F4 FB 01 6C 6F 61 64", "60 F4 FB 01");
+    TALK(1, "40 0E 80 02", "4F 0E 80 02 01");
+    TALK(1, "40 F4 FB 01", "43 F4 FB 01 01");
+    TALK(1, "23 F4 FB 01 64 61 6F 6C", "60 F4 FB 01"); /* a wrong word */
+    TALK(1, "40 F4 FB 02", "4F F4 FB 02 02");
+    TALK(1, "40 F4 FB 03", "4B F4 FB 03 02");
+    TALK(0, "2F 0E 80 02 00", "60 0E 80 02");
+    TALK(0, "40 01 20 00", "41 01 20 00 20");
+    TALK(1, "21 F0 FB 01 06", "60 F0 FB 01");
+    TALK(1, "03 74 65 73 65 72 00", "20");
+    TALK(0, "60", "80 00 00 00 01 00 04 05");
+    TALK(0, "40 0E 80 02", "4F 0E 80 02 01");
+    board.block[511] = 1; /* a damaged block: defaults */
+    CHECK(gauge_power_up(board.values, sizeof board.values, board.block, sizeof board.block, board.state, sizeof board.state) ==
+          GAUGE_DONE);
+    TALK(0, "40 0E 80 02", "4F 0E 80 02");
+}
+
+/* 4, 3, 2, 1 in this order, and nothing written */
+static void refusals(void)
+{
+    static const uint8_t read_lock[16] = {0x40, 0x03, 0x20, 0x00};
+    static const uint8_t abort_message[8] = {0x80};
+    static const size_t rooms[] = {0, 7, 8, 9, 16}, lengths[] = {0, 7, 8, 9, 16};
+    static const uint32_t lines[] = {0, 1, 2, 256, 0xFFFFFFFFu};
+    unsigned v, b, s, l, r, m;
+    start();
+    TALK(0, "40 10 20 00", "41 10 20 00 21");
+    for (v = 0; v < 2; v++) {
+        for (b = 0; b < 2; b++) {
+            for (s = 0; s < 2; s++) {
+                for (l = 0; l < 5; l++) {
+                    for (r = 0; r < 5; r++) {
+                        for (m = 0; m < 5; m++) {
+                            uint32_t number, expected = v || b || s      ? GAUGE_BAD_MEMORY
+                                                        : lines[l] > 1   ? GAUGE_BAD_LINE
+                                                        : rooms[r] < 8   ? GAUGE_SHORT_ROOM
+                                                        : lengths[m] != 8 ? GAUGE_BAD_MESSAGE
+                                                                          : GAUGE_DONE;
+                            if (expected == GAUGE_DONE) {
+                                continue;
+                            }
+                            memset(board.answer, FILL, sizeof board.answer);
+                            before = board;
+                            number = gauge_message(lines[l], read_lock, lengths[m], board.values, sizeof board.values - v,
+                                                   board.block, sizeof board.block - b, board.state, sizeof board.state - s,
+                                                   board.answer, rooms[r]);
+                            CHECK(number == expected);
+                            CHECK(same((const uint8_t *)&before, (const uint8_t *)&board, sizeof board));
+                        }
+                    }
+                }
+                if (v || b || s) {
+                    before = board;
+                    CHECK(gauge_power_up(board.values, sizeof board.values - v, board.block, sizeof board.block - b, board.state,
+                                         sizeof board.state - s) == GAUGE_BAD_MEMORY);
+                    CHECK(same((const uint8_t *)&before, (const uint8_t *)&board, sizeof board));
+                }
+            }
+        }
+    }
+    /* the client's abort is no refusal: the transfer is dropped, the room untouched; but too short a room is refused first */
+    CHECK(board.state[66] == 1);
+    CHECK(send(0, abort_message, 7) == GAUGE_SHORT_ROOM && board.state[66] == 1);
+    CHECK(send(0, abort_message, 8) == GAUGE_CLIENT_ABORT);
+    CHECK(all(board.answer, sizeof board.answer, FILL) && all(board.state, 70, 0));
+    CHECK(send(1, abort_message, 8) == GAUGE_CLIENT_ABORT);
+    CHECK(all(board.answer, sizeof board.answer, FILL));
+    CHECK(guards_hold());
+}
+
+int main(void)
+{
+    power_up();
+    examples();
+    samples();
+    commands();
+    refusals();
+    printf("C test: %u checks, %u failed\n", checks, failures);
+    return failures == 0 ? 0 : 1;
+}

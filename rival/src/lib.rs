@@ -1,0 +1,65 @@
+//! The independent board behind the C signatures of include/gauge.h, as `rival_power_up` and so on: for the benchmark, and to try
+//! the C test on.
+
+#[allow(dead_code)]
+#[path = "../../tests/src/model/mod.rs"]
+mod model;
+
+/// # Safety
+/// A pointer and the length of what it points to; no pointer is needed for length 0.
+unsafe fn lent<'a>(bytes: *mut u8, len: usize) -> &'a mut [u8] {
+    if len == 0 {
+        &mut []
+    } else {
+        std::slice::from_raw_parts_mut(bytes, len)
+    }
+}
+
+/// # Safety
+/// As include/gauge.h says.
+#[no_mangle]
+pub unsafe extern "C" fn rival_power_up(values: *mut u8, v: usize, block: *mut u8, b: usize, state: *mut u8, s: usize) -> u32 {
+    model::power_up(lent(values, v), lent(block, b), lent(state, s))
+}
+
+/// # Safety
+/// As include/gauge.h says.
+#[no_mangle]
+pub unsafe extern "C" fn rival_message(
+    line: u32,
+    message: *const u8,
+    m: usize,
+    values: *mut u8,
+    v: usize,
+    block: *mut u8,
+    b: usize,
+    state: *mut u8,
+    s: usize,
+    answer: *mut u8,
+    a: usize,
+) -> u32 {
+    model::message(line, lent(message.cast_mut(), m), lent(values, v), lent(block, b), lent(state, s), lent(answer, a))
+}
+
+/// # Safety
+/// As include/gauge.h says.
+#[no_mangle]
+pub unsafe extern "C" fn rival_sample(
+    pressure: f32,
+    valid: u8,
+    faults: u32,
+    seconds: u32,
+    values: *mut u8,
+    v: usize,
+    state: *mut u8,
+    s: usize,
+) -> u32 {
+    model::sample(pressure, valid, faults, seconds, lent(values, v), lent(state, s))
+}
+
+/// # Safety
+/// As include/gauge.h says.
+#[no_mangle]
+pub unsafe extern "C" fn rival_image(values: *const u8, v: usize, image: *mut u8, i: usize) -> u32 {
+    model::image(lent(values.cast_mut(), v), lent(image, i))
+}

@@ -1,0 +1,181 @@
+//! Whole reads and whole writes of entries, and the commands.
+
+use super::card;
+use super::code;
+use super::fault::{Fault, Mutant::*};
+use super::limits;
+use super::saved;
+use super::table::{place, Kind, Row};
+use super::{Block, Values};
+
+const LOCK: usize = place(0x2003, 0);
+const SUMMARY: usize = place(0xF380, 0);
+const ACTIVE: usize = place(0xF383, 1);
+const LATCHED: usize = place(0xF390, 0);
+const LATCHED_END: usize = place(0xF398, 1) + 4;
+
+const RESET: u16 = 0xFBF0;
+const EXCEPTION_RESET: u16 = 0xFBF1;
+const STORE: u16 = 0xFBF2;
+const LOAD: u16 = 0xFBF4;
+
+/// What a finished write asks for besides what it changed.
+#[derive(Clone, Copy, PartialEq, Eq)]
+pub enum After {
+    Nothing,
+    Reset,
+}
+
+/// The first byte of a command word that is read.
+#[inline]
+fn word_read<F: Fault>(f: F, row: &Row) -> u8 {
+    let printed = row.index() == LOAD || row.index() == STORE && !f.on(StoreWordReadsZero);
+    (printed || f.on(CommandWordKept)) as u8
+}
+
+/// An entry of up to four bytes, with zeros behind it.
+#[inline]
+pub fn read_short<F: Fault>(f: F, row: &Row, values: &Values) -> u32 {
+    if row.kind == Kind::Command {
+        return word_read(f, row) as u32;
+    }
+    // entries lie before the values' last bytes, so four can be taken
+    let at = row.place as usize;
+    card::bits32(values, at) & u32::MAX >> (32 - 8 * row.len as u32)
+}
+
+const _: () = assert!(place(0xFBF4, 3) + 4 <= 1024);
+
+/// Copies an entry; `to` has the row's length.
+#[inline]
+pub fn read<F: Fault>(f: F, row: &Row, values: &Values, to: &mut [u8]) {
+    match row.kind {
+        Kind::Card => to.copy_from_slice(&card::pack(f, values)),
+        Kind::Command => {
+            to.fill(0);
+            to[0] = word_read(f, row);
+        }
+        _ => to.copy_from_slice(&values[row.place as usize..row.place as usize + to.len()]),
+    }
+}
+
+/// The lock's check.
+#[inline]
+pub fn judge_lock<F: Fault>(f: F, row: &Row, values: &Values) -> Result<(), u32> {
+    let on = if f.on(LentLockOn) { values[LOCK] != 0 } else { values[LOCK] == 1 };
+    let locked = row.nv
+        || row.kind == Kind::Card && !f.on(CardNotLocked)
+        || row.kind == Kind::Command && row.index() == LOAD && !f.on(LoadNotLocked)
+        || f.on(StoreLocked) && row.kind == Kind::Command && row.index() == STORE
+        || f.on(LockLocksItself) && row.index() == 0x2003;
+    if on && locked {
+        Err(code::LOCKED)
+    } else {
+        Ok(())
+    }
+}
+
+fn judge<F: Fault>(f: F, row: &Row, bytes: &[u8]) -> Result<(), u32> {
+    match <&[u8; card::LENGTH]>::try_from(bytes) {
+        Ok(bytes) if row.kind == Kind::Card => card::judge(f, bytes),
+        _ => limits::judge(f, row, bytes),
+    }
+}
+
+/// Lock and limits, then the write; `bytes` has the row's length.
+pub fn write<F: Fault>(
+    f: F,
+    row: &Row,
+    bytes: &[u8],
+    values: &mut Values,
+    block: &mut Block,
+    unlocked: bool,
+) -> Result<After, u32> {
+    if f.on(LimitsBeforeLock) {
+        judge(f, row, bytes)?;
+    }
+    if !unlocked {
+        judge_lock(f, row, values)?;
+    }
+    if let Err(code) = judge(f, row, bytes) {
+        if f.on(CardHalfStored) && row.kind == Kind::Card && bytes[0] >> 4 == 1 {
+            values[card::SIDES[0].enable] = bytes[0] >> 3 & 1;
+        }
+        return Err(code);
+    }
+    if f.on(StoresNothing) {
+        return Ok(After::Nothing);
+    }
+    match row.kind {
+        Kind::Card => {
+            if let Ok(bytes) = bytes.try_into() {
+                card::unpack(f, bytes, values);
+            }
+        }
+        Kind::Command => return command(f, row, bytes, values, block),
+        _ => values[row.place as usize..row.place as usize + bytes.len()].copy_from_slice(bytes),
+    }
+    Ok(After::Nothing)
+}
+
+fn command<F: Fault>(f: F, row: &Row, word: &[u8], values: &mut Values, block: &mut Block) -> Result<After, u32> {
+    const WRONG: Option<bool> = None;
+    let (done, status) = match row.index() {
+        RESET if word == b"teser\0" || f.on(FactoryWordResets) && word == b"teserf" => return Ok(After::Reset),
+        RESET => (WRONG, place(RESET, 2)),
+        EXCEPTION_RESET if word == b"teser" => {
+            exception_reset(f, values);
+            (Some(true), place(EXCEPTION_RESET, 2))
+        }
+        EXCEPTION_RESET => (WRONG, place(EXCEPTION_RESET, 2)),
+        STORE if word == b"save" => (Some(saved::store(f, values, block)), place(STORE, 2)),
+        STORE => (WRONG, place(STORE, 2)),
+        _ if word == b"load" => (Some(saved::load(f, block, values)), place(LOAD, 2)),
+        _ => (WRONG, place(LOAD, 2)),
+    };
+    if done == WRONG && f.on(WrongWordRefused) {
+        return Err(code::OUT_OF_RANGE);
+    }
+    if done == WRONG && f.on(WrongWordSilent) {
+        return Ok(After::Nothing);
+    }
+    let number = if done == Some(true) { 0 } else { 2 };
+    // the response stands behind the status
+    values[status] = number;
+    if !f.on(StatusWithoutResponse) {
+        values[status + 1] = number;
+    }
+    if f.on(ResponseByteOneCleared) {
+        values[status + 2] = 0;
+    }
+    Ok(After::Nothing)
+}
+
+const _: () = {
+    assert!(place(RESET, 3) == place(RESET, 2) + 1);
+    assert!(place(EXCEPTION_RESET, 3) == place(EXCEPTION_RESET, 2) + 1);
+    assert!(place(STORE, 3) == place(STORE, 2) + 1);
+    assert!(place(LOAD, 3) == place(LOAD, 2) + 1);
+    assert!(LATCHED_END == LATCHED + 1 + 8 * 4);
+};
+
+/// The summary byte of an active word: bit 2, Device Error.
+#[inline]
+pub fn summary<F: Fault>(f: F, active: u32) -> u8 {
+    let bit = if f.on(SummaryWrongBit) { 3 } else { 2 };
+    ((active != 0) as u8) << bit
+}
+
+fn exception_reset<F: Fault>(f: F, values: &mut Values) {
+    if f.on(ExceptionResetOneWord) {
+        values[place(0xF393, 1)..place(0xF393, 1) + 4].fill(0);
+    } else {
+        values[LATCHED..LATCHED_END].fill(0);
+    }
+    if f.on(ExceptionResetClearsActive) {
+        values[ACTIVE..ACTIVE + 4].fill(0);
+    }
+    if !f.on(ExceptionResetKeepsSummary) {
+        values[SUMMARY] = summary(f, card::bits32(values, ACTIVE));
+    }
+}

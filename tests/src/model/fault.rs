@@ -1,0 +1,185 @@
+//! Wrong variants of the independent board. `Sound` is the board itself, and the switch costs it nothing.
+
+/// Answers whether a wrong variant is the one to run.
+pub trait Fault: Copy {
+    fn on(self, mutant: Mutant) -> bool;
+}
+
+/// No fault.
+#[derive(Clone, Copy)]
+pub struct Sound;
+
+impl Fault for Sound {
+    #[inline(always)]
+    fn on(self, _: Mutant) -> bool {
+        false
+    }
+}
+
+/// One fault.
+#[derive(Clone, Copy)]
+pub struct Broken(pub Mutant);
+
+impl Fault for Broken {
+    #[inline]
+    fn on(self, mutant: Mutant) -> bool {
+        self.0 == mutant
+    }
+}
+
+macro_rules! mutants {
+    ($($name:ident: $text:literal,)*) => {
+        #[derive(Clone, Copy, PartialEq, Eq, Debug)]
+        pub enum Mutant {
+            $(#[doc = $text] $name,)*
+        }
+
+        /// Every wrong variant with what it does.
+        pub const MUTANTS: &[(Mutant, &str)] = &[$((Mutant::$name, $text),)*];
+    };
+}
+
+mutants! {
+    // the errors that look reasonable
+    LiveParts: "a long entry is copied part by part from the live values",
+    LockAtOpening: "the lock is judged at the opening of a write in parts, not at its last message",
+    GoodEntriesOfFaultyBlock: "the good entries of a faulty block are taken",
+    ToggleResetByOtherLine: "a message on the other line resets the toggle",
+    LowTripAtLevel: "the low trip goes on at the level too",
+    // the boards that the promises must refuse
+    AbortsAll: "every request is aborted",
+    SameEightBytes: "the same eight bytes are sent always",
+    StoresNothing: "a write is answered with yes and stores nothing",
+    FakedParts: "the opening of a read is served, the later parts are zeros",
+    // trips and samples
+    HighTripAtLevel: "the high trip goes on at the level too",
+    LowOffAtEdge: "the low trip goes off at level + hysteresis already",
+    HighOffAtEdge: "the high trip goes off at level - hysteresis already",
+    BothHoldIsOn: "where lent settings make both conditions hold the side goes on",
+    SumInDouble: "level + hysteresis is not rounded to a REAL",
+    DisabledSideStays: "a disabled side keeps its state",
+    InvalidKeepsTrips: "a sample that is not valid leaves the trips",
+    InvalidTakesPressure: "a sample that is not valid still sets the input value",
+    MinusZeroNegative: "a pressure of minus zero counts as negative",
+    InfinityValid: "a pressure of plus infinity is valid",
+    ValidOnlyOne: "only the valid flag 1 is valid",
+    SecondInputForgotten: "trip point 2's input value is not set",
+    SecondsOnlyForward: "smaller seconds are not copied",
+    AllFaultBits: "the other fault bits are kept too",
+    LatchedIsActive: "the latched word is this sample's faults alone",
+    SummaryFromLatched: "the summary shows the latched word",
+    SummaryWrongBit: "the summary is bit 3",
+    TripByteKept: "a lent trip byte that stays on is not set to 1",
+    LentEnableBit: "of a lent enable byte only bit 0 counts in a sample",
+    NewSettingsAtOnce: "disabling a side by a write switches it off before the next sample",
+    // image
+    ImageBitsReversed: "the image's first byte has its most significant bit first",
+    ImageBigEndian: "the image's sensor value has its most significant byte first",
+    ImageLentBool: "of a lent BOOL byte only bit 0 counts in the image",
+    ImageWithoutSummary: "the image's summary byte is zero",
+    // table and limits
+    NoSubindexIsNoIndex: "an absent subindex gives the code of an absent index",
+    NanAccepted: "a REAL that is not a number is accepted",
+    NanIsAbove: "a REAL that is not a number gives 'above'",
+    InfinityAccepted: "plus infinity is accepted where no range is printed",
+    MinusZeroBelow: "minus zero is below a minimum of zero",
+    BoolAnyByte: "a BOOL takes any byte",
+    MaximumExcluded: "the maximum itself is refused",
+    BelowIsAbove: "a value below its minimum gives the code for above",
+    // card
+    CardLayoutFree: "a card of another layout is taken",
+    CardLayoutIsAbove: "a card of another layout gives 'above'",
+    CardLittleEndian: "the card has a REAL's least significant byte first",
+    CardLevelsFirst: "in the card both levels are judged before the hystereses",
+    CardLastFieldDecides: "in the card the last bad field decides",
+    CardHalfStored: "the fields before the bad one of a refused card are stored",
+    CardLentEnable: "of a lent enable byte only bit 0 counts in the card",
+    CardSidesSwapped: "the card has the low side before the high side",
+    // saved block and commands
+    RestNotTested: "bits of the block's rest are not tested",
+    LastByteNotTested: "the block's last byte is not tested",
+    ModelNotTested: "the block's model is not tested",
+    BlockLimitsNotTested: "the block's values are not held to their limits",
+    BlockLittleEndian: "the block has a number's least significant byte first",
+    StoreAnything: "store writes lent values that are outside their limits",
+    StoreClips: "store writes a lent BOOL byte other than 0 as 1",
+    StoreLeavesRest: "store leaves the block's rest as it was",
+    StoreRefusedWrites: "a refused store clears the block",
+    LoadFaultyIsDefault: "a load of a faulty block sets the defaults",
+    WrongWordRefused: "a wrong command word is refused",
+    WrongWordSilent: "a wrong command word leaves the status",
+    StatusWithoutResponse: "a command leaves the response",
+    ResponseByteOneCleared: "a command clears response byte 1",
+    FactoryWordResets: "the factory word resets",
+    ResetKeepsOtherLine: "a device reset keeps the other line's transfer",
+    ResetKeepsTrips: "a device reset keeps the trips",
+    ResetIgnoresBlock: "a device reset takes defaults and no saved block",
+    ExceptionResetKeepsSummary: "an exception reset leaves the summary",
+    ExceptionResetOneWord: "an exception reset clears F393 only",
+    ExceptionResetClearsActive: "an exception reset clears the active word",
+    StoreWordReadsZero: "FBF2:01 reads as zeros",
+    CommandWordKept: "a command word reads as the word for load, whatever is printed",
+    PowerUpKeepsTail: "power-up leaves the bytes of no entry",
+    PowerUpKeepsRecords: "power-up leaves line 1's record",
+    PowerUpClearsSpare: "power-up clears spare bytes",
+    // lock
+    LoadNotLocked: "the lock does not refuse the load command",
+    CardNotLocked: "the lock does not refuse the card",
+    StoreLocked: "the lock refuses the store command too",
+    LockLocksItself: "the lock refuses writes to itself",
+    LentLockOn: "a lent lock of 2 to 255 is on",
+    LimitsBeforeLock: "limits are judged before the lock",
+    LockBeforeLength: "the lock is judged before a last part that ends short",
+    // eight bytes
+    LengthBeforeAccess: "the length is judged before the access",
+    ShortBeforeLong: "a wrong length gives the code for the other side",
+    AnnouncedTrusted: "an announced length is not judged",
+    AnnouncedLowBytes: "only the low 16 bits of an announced length are judged",
+    AnnouncedZeroUnknown: "an announced length of 0 counts as unknown",
+    NoSizeMeansFour: "an expedited write without a size means four bytes",
+    ShortEndPadded: "a last part that ends short is filled up with zeros",
+    OverrunCut: "bytes that overrun are cut off",
+    OverrunAtEnd: "an overrun is told at the last part only",
+    UnusedBitsOnlyLast: "unused-byte bits count in the last part only",
+    EmptyPartRefused: "a part that carries no byte is refused",
+    FullEndsWrite: "a write ends when all bytes are there, without the last-part bit",
+    WrongToggleServed: "a wrong toggle is served",
+    WrongToggleKeeps: "a wrong toggle does not drop the transfer",
+    ToggleWithoutIndex: "a toggle abort has a zero index",
+    NoTransferWithIndex: "05040001 has the message's index",
+    ToggleBeforeMatch: "with no matching transfer but a wrong toggle 05030000 is given",
+    OtherDirectionDrops: "a part of the other direction is refused and leaves the transfer",
+    RefusedOpeningKeeps: "a refused opening leaves the older transfer",
+    UnknownSpecifierKeeps: "an unknown specifier leaves the transfer",
+    SpecifierSevenIgnored: "specifier 7 counts as the client's abort",
+    AbortKeepsTransfer: "the client's abort leaves the transfer",
+    AbortDropsBoth: "the client's abort drops both lines' transfers",
+    AbortAnswered: "the client's abort is number 0",
+    EndedReadKeepsBytes: "an ended read leaves its held bytes",
+    EndedWriteKeepsRow: "an ended write leaves its row",
+    OpeningKeepsBytes: "an opening does not clear the older held bytes",
+    NotLastAtSeven: "a read with seven bytes left is not at its last part",
+    ReadUnusedBits: "the last part of a read counts unused bytes of eight",
+    HeldAtFirstPart: "a long read is held at its first part, not at its opening",
+    WriteLiveAtParts: "a write in parts of the label acts part by part",
+    LinesShareRecord: "both lines use one record",
+    // lent records
+    RecordRowFree: "a record's row outside the table is cut to the last row",
+    RecordAccessFree: "a record may write a read-only row",
+    RecordLengthFree: "a record's length may differ from the row's",
+    RecordPlaceAtEnd: "a record with its place at the length counts as none",
+    RecordDirectionFree: "any direction but 1 is a write",
+    RecordToggleBit: "of a lent toggle byte only bit 0 counts",
+    NoneRecordKept: "a record that counts as none is left when its line gets an abort",
+    // numbers
+    LineBeforeMemory: "a wrong line is told before wrong memory",
+    MessageBeforeRoom: "a wrong message is told before a short room",
+    RoomBeforeLine: "a short room is told before a wrong line",
+    RoomMustFit: "a longer room is refused",
+    LongMessageCut: "a longer message is cut to eight bytes",
+    AnswerRoomFilled: "later bytes of a longer room are cleared",
+    ImageRoomFilled: "later bytes of a longer image room are cleared",
+    RefusedCallDrops: "a call with a short room drops the transfer",
+    AbortNeedsNoRoom: "the client's abort is taken with a short room",
+    LineMasked: "of a line number only bit 0 counts",
+}

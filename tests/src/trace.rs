@@ -1,0 +1,877 @@
+//! Random traces with fixed seeds, two boards compared on them, and the shortest trace that shows a difference.
+
+use crate::board::{hex, Board, Memory};
+use crate::plain::{self, bits_of, bytes_of, lines, Line, Plain};
+use crate::random::Random;
+use std::collections::VecDeque;
+use std::fmt;
+use std::sync::OnceLock;
+
+/// A part of the memory that is lent.
+#[derive(Clone, Copy, Debug, PartialEq, Eq)]
+pub enum Part {
+    Values,
+    Block,
+    State,
+}
+
+/// One step of a trace.
+#[derive(Clone, Debug)]
+pub enum Op {
+    PowerUp,
+    Message {
+        line: u32,
+        message: [u8; 8],
+        room: usize,
+    },
+    Sample {
+        pressure: u32,
+        valid: u8,
+        faults: u32,
+        seconds: u32,
+    },
+    Image {
+        room: usize,
+    },
+    /// Somebody else writes into the lent memory.
+    Lend {
+        part: Part,
+        at: usize,
+        bytes: Vec<u8>,
+    },
+    /// A call with lengths that may be wrong; `sizes` are those of values, block and state.
+    Odd {
+        call: u8,
+        line: u32,
+        message: Vec<u8>,
+        sizes: [usize; 3],
+        room: usize,
+    },
+}
+
+impl Op {
+    /// Whether it counts as a message or sample.
+    pub fn is_counted(&self) -> bool {
+        matches!(self, Op::Message { .. } | Op::Sample { .. })
+    }
+}
+
+#[derive(Clone)]
+pub struct Trace {
+    pub seed: u64,
+    pub memory: Memory,
+    pub ops: Vec<Op>,
+}
+
+/// What a trace may contain.
+#[derive(Clone, Copy, PartialEq, Eq)]
+pub enum Style {
+    /// Anything, lent memory among it.
+    Any,
+    /// From power-up, and only the board writes its memory.
+    FromPowerUp,
+}
+
+const ROOM: u8 = 0xC3;
+
+/// A room for answers and images, filled before each call.
+fn room(size: usize) -> Vec<u8> {
+    vec![ROOM; size]
+}
+
+/// Makes one call; gives back the number and the whole room.
+pub fn apply(op: &Op, board: &mut dyn Board, memory: &mut Memory) -> (u32, Vec<u8>) {
+    let m = memory;
+    match op {
+        Op::PowerUp => (board.power_up(&mut m.values, &mut m.block, &mut m.state), Vec::new()),
+        Op::Message { line, message, room: size } => {
+            let mut answer = room(*size);
+            let number = board.message(*line, message, &mut m.values, &mut m.block, &mut m.state, &mut answer);
+            (number, answer)
+        }
+        Op::Sample { pressure, valid, faults, seconds } => {
+            (board.sample(f32::from_bits(*pressure), *valid, *faults, *seconds, &mut m.values, &mut m.state), Vec::new())
+        }
+        Op::Image { room: size } => {
+            let mut image = room(*size);
+            (board.image(&m.values, &mut image), image)
+        }
+        Op::Lend { part, at, bytes } => {
+            let to = match part {
+                Part::Values => &mut m.values,
+                Part::Block => &mut m.block,
+                Part::State => &mut m.state,
+            };
+            to[*at..*at + bytes.len()].copy_from_slice(bytes);
+            (0, Vec::new())
+        }
+        Op::Odd { call, line, message, sizes, room: size } => {
+            let sized = |from: &Vec<u8>, size: usize| {
+                let mut bytes = from.clone();
+                bytes.resize(size, 0x3C);
+                bytes
+            };
+            let (mut values, mut block, mut state) =
+                (sized(&m.values, sizes[0]), sized(&m.block, sizes[1]), sized(&m.state, sizes[2]));
+            let mut answer = room(*size);
+            let number = match call {
+                0 => board.power_up(&mut values, &mut block, &mut state),
+                1 => board.message(*line, message, &mut values, &mut block, &mut state, &mut answer),
+                2 => board.sample(0.5, 1, *line, 7, &mut values, &mut state),
+                _ => board.image(&values, &mut answer),
+            };
+            // what lies behind the memory's own size is looked at as well
+            for (from, to) in [(&values, &mut m.values), (&block, &mut m.block), (&state, &mut m.state)] {
+                let both = from.len().min(to.len());
+                to[..both].copy_from_slice(&from[..both]);
+                answer.extend(from.iter().skip(both));
+            }
+            (number, answer)
+        }
+    }
+}
+
+/// The first step at which two boards differ, and in what.
+pub fn difference(trace: &Trace, a: &mut dyn Board, b: &mut dyn Board) -> Option<(usize, String)> {
+    let (mut mine, mut theirs) = (trace.memory.clone(), trace.memory.clone());
+    for (n, op) in trace.ops.iter().enumerate() {
+        let (number_a, room_a) = apply(op, a, &mut mine);
+        let (number_b, room_b) = apply(op, b, &mut theirs);
+        if number_a != number_b {
+            return Some((n, format!("number {number_a} against {number_b}")));
+        }
+        if room_a != room_b {
+            return Some((n, format!("room {} against {}", hex(&room_a), hex(&room_b))));
+        }
+        for (name, x, y) in [
+            ("values", &mine.values, &theirs.values),
+            ("block", &mine.block, &theirs.block),
+            ("state", &mine.state, &theirs.state),
+        ] {
+            if x != y {
+                let at = (0..x.len()).find(|&i| x[i] != y[i]).unwrap();
+                return Some((n, format!("{name} byte {at}: {:02X} against {:02X}", x[at], y[at])));
+            }
+        }
+    }
+    None
+}
+
+/// Leaves out what the difference does not need. `differs` gives the step of a difference.
+pub fn shrink(trace: &Trace, mut differs: impl FnMut(&Trace) -> Option<usize>) -> Trace {
+    let mut best = trace.clone();
+    if let Some(n) = differs(&best) {
+        best.ops.truncate(n + 1);
+    }
+    let zero = Memory::zero();
+    for part in 0..3 {
+        let mut less = best.clone();
+        match part {
+            0 => less.memory.values = zero.values.clone(),
+            1 => less.memory.block = zero.block.clone(),
+            _ => less.memory.state = zero.state.clone(),
+        }
+        if let Some(n) = differs(&less) {
+            less.ops.truncate(n + 1);
+            best = less;
+        }
+    }
+    let mut size = best.ops.len().div_ceil(2).max(1);
+    loop {
+        let mut at = 0;
+        let mut smaller = false;
+        while at < best.ops.len() {
+            let mut less = best.clone();
+            less.ops.drain(at..(at + size).min(best.ops.len()));
+            match differs(&less) {
+                Some(n) => {
+                    less.ops.truncate(n + 1);
+                    best = less;
+                    smaller = true;
+                }
+                None => at += size,
+            }
+        }
+        if size == 1 && !smaller {
+            return best;
+        }
+        size = size.div_ceil(2).max(1);
+    }
+}
+
+impl fmt::Display for Op {
+    fn fmt(&self, f: &mut fmt::Formatter) -> fmt::Result {
+        match self {
+            Op::PowerUp => write!(f, "power-up"),
+            Op::Message { line, message, room } => write!(f, "message on line {line}: {} (room {room})", hex(message)),
+            Op::Sample { pressure, valid, faults, seconds } => {
+                let p = f32::from_bits(*pressure);
+                write!(f, "sample: pressure {pressure:08X} ({p:e}), valid {valid}, faults {faults:08X}, seconds {seconds}")
+            }
+            Op::Image { room } => write!(f, "image (room {room})"),
+            Op::Lend { part, at, bytes } => write!(f, "lent: {part:?} from byte {at} on: {}", hex(bytes)),
+            Op::Odd { call, line, message, sizes, room } => write!(
+                f,
+                "call of {}: line {line}, message {}, values, block, state of {sizes:?} bytes, room {room}",
+                ["power-up", "message", "sample", "image"][*call as usize & 3],
+                hex(message)
+            ),
+        }
+    }
+}
+
+impl fmt::Display for Trace {
+    fn fmt(&self, f: &mut fmt::Formatter) -> fmt::Result {
+        writeln!(f, "seed {}, {} steps", self.seed, self.ops.len())?;
+        for (name, bytes) in [("values", &self.memory.values), ("block", &self.memory.block), ("state", &self.memory.state)] {
+            if bytes.iter().any(|&b| b != 0) {
+                writeln!(f, "  at the start, {name}: {}", hex(bytes))?;
+            }
+        }
+        for (n, op) in self.ops.iter().enumerate() {
+            writeln!(f, "  {n}: {op}")?;
+        }
+        Ok(())
+    }
+}
+
+fn table() -> &'static [Line] {
+    static TABLE: OnceLock<Vec<Line>> = OnceLock::new();
+    TABLE.get_or_init(lines)
+}
+
+fn defaults() -> &'static [u8] {
+    static DEFAULTS: OnceLock<Vec<u8>> = OnceLock::new();
+    DEFAULTS.get_or_init(|| Plain::new(&[0; 512]).values())
+}
+
+const SPECIAL: [u32; 18] = [
+    0x0000_0000, // zero
+    0x8000_0000, // minus zero
+    0x0000_0001, // smallest
+    0x8000_0001, // smallest, negative
+    0x44BB_8000, // 1500
+    0x44BB_8001, // above 1500
+    0x44BB_7FFF, // below 1500
+    0x7F7F_FFFF, // greatest
+    0xFF7F_FFFF, // least
+    0x7F80_0000, // infinity
+    0xFF80_0000, // minus infinity
+    0x7FC0_0000, // not a number
+    0x7F80_0001, // not a number, signalling
+    0xFFFF_FFFF, // not a number
+    0xBF80_0000, // -1
+    0x3F80_0000, // 1
+    0xC4BB_8000, // -1500
+    0x0080_0000, // smallest normal
+];
+
+const NICE: [f32; 14] = [0.5, 0.125, 0.25, 0.75, 1.0, 0.0, 2.0, 1500.0, 0.1, 0.3, 1e-7, 3.5e-10, 1499.9999, 16.0];
+
+/// Makes the steps of one trace.
+struct Maker {
+    r: Random,
+    style: Style,
+    /// Messages that each line is about to send.
+    queues: [VecDeque<[u8; 8]>; 2],
+    reals: [u32; 4],
+    ops: Vec<Op>,
+    seconds: u32,
+}
+
+impl Maker {
+    fn real(&mut self) -> u32 {
+        match self.r.below(20) {
+            0 => self.r.pick(&SPECIAL),
+            1 => self.r.word(),
+            2 => self.r.pick(&NICE).to_bits(),
+            _ => self.r.pick(&self.reals.clone()),
+        }
+    }
+
+    /// A value for an entry: most of them good, many at a limit, some outside.
+    fn value(&mut self, line: &Line) -> Vec<u8> {
+        let width = 8 * line.length as u32;
+        match line.kind.as_str() {
+            "BOOL" => vec![self.r.pick(&[0, 1, 0, 1, 0, 1, 0, 1, 1, 1, 2, 0xFF])],
+            "REAL" => match self.r.below(10) {
+                0 | 1 => self.r.pick(&SPECIAL).to_le_bytes().to_vec(),
+                _ => self.real().to_le_bytes().to_vec(),
+            },
+            "CARD" => self.card(),
+            "COMMAND" => self.command(line),
+            "STRING" => match self.r.below(4) {
+                0 => vec![self.r.byte(); line.length],
+                1 => line.default(),
+                _ => self.r.bytes(line.length),
+            },
+            _ => {
+                let (low, high) = (line.minimum(), line.maximum());
+                let span = high.wrapping_sub(low).wrapping_add(1);
+                let inside = if span == 0 { self.r.number() } else { low.wrapping_add(self.r.number() % span) };
+                let mut near = vec![low, high, inside, inside, inside, low, high];
+                near.extend([low.wrapping_sub(1), high.wrapping_add(1)]);
+                if self.r.chance(30) {
+                    near = vec![self.r.number()];
+                }
+                let value = self.r.pick(&near);
+                value.to_le_bytes()[..width as usize / 8].to_vec()
+            }
+        }
+    }
+
+    fn card(&mut self) -> Vec<u8> {
+        let layout = if self.r.chance(40) { self.r.below(16) as u64 } else { 1 };
+        let mut bits = bits_of(layout, 4);
+        let bad = if self.r.chance(250) { self.r.below(8) } else { 99 };
+        let worse = if self.r.chance(300) { self.r.below(8) } else { 99 };
+        for point in 0..2 {
+            bits.push(self.r.chance(700));
+            bits.push(self.r.chance(700));
+            for field in 0..4 {
+                let n = 4 * point + field;
+                let value = if n == bad || (bad != 99 && n == worse) {
+                    self.r.pick(&SPECIAL)
+                } else {
+                    let pool = self.reals;
+                    self.r.pick(&pool)
+                };
+                bits.extend(bits_of(value as u64, 32));
+            }
+        }
+        bytes_of(&bits)
+    }
+
+    fn command(&mut self, line: &Line) -> Vec<u8> {
+        let mut word = match line.index {
+            0xFBF0 => b"teser\0".to_vec(),
+            0xFBF1 => b"teser".to_vec(),
+            0xFBF2 => b"save".to_vec(),
+            _ => b"load".to_vec(),
+        };
+        word.resize(line.length, 0);
+        if self.r.chance(120) {
+            match self.r.below(3) {
+                0 => word[self.r.below(line.length)] ^= 1 << self.r.below(8),
+                1 => word.reverse(),
+                _ => word = self.r.bytes(line.length),
+            }
+        } else if line.index == 0xFBF0 && line.length == 6 && self.r.chance(300) {
+            word[5] = 0x66;
+        }
+        word
+    }
+
+    fn opening(first: u8, line: &Line, rest: [u8; 4]) -> [u8; 8] {
+        let [low, high] = line.index.to_le_bytes();
+        [first, low, high, line.sub, rest[0], rest[1], rest[2], rest[3]]
+    }
+
+    /// Bits and bytes without meaning, now and then.
+    fn junk4(&mut self) -> [u8; 4] {
+        if self.r.chance(150) {
+            self.r.word().to_le_bytes()
+        } else {
+            [0; 4]
+        }
+    }
+
+    fn read(&mut self, line: &Line) -> Vec<[u8; 8]> {
+        let rest = self.junk4();
+        let low = if self.r.chance(50) { self.r.below(32) as u8 } else { 0 };
+        let mut script = vec![Maker::opening(0x40 | low, line, rest)];
+        if line.length > 4 {
+            let parts = line.length.div_ceil(7) + self.r.chance(40) as usize;
+            self.read_parts(parts, 0, &mut script);
+        }
+        script
+    }
+
+    fn read_parts(&mut self, count: usize, toggle: usize, script: &mut Vec<[u8; 8]>) {
+        for n in 0..count {
+            let mut part = [0; 8];
+            part[0] = 0x60 | (((toggle + n) % 2) as u8) << 4;
+            if self.r.chance(60) {
+                part[0] |= self.r.below(16) as u8;
+                part[1..8].copy_from_slice(&self.r.bytes(7));
+            }
+            script.push(part);
+        }
+    }
+
+    fn write_parts(&mut self, bytes: &[u8], toggle: usize, script: &mut Vec<[u8; 8]>) {
+        let odd = self.r.chance(200);
+        let mut at = 0;
+        let mut n = toggle;
+        let late = self.r.chance(40);
+        loop {
+            let count = if odd { self.r.below(8) } else { 7 }.min(bytes.len() - at);
+            let last = at + count == bytes.len() && !(late && n < toggle + 8);
+            let mut part = [0; 8];
+            if self.r.chance(100) {
+                part.copy_from_slice(&self.r.bytes(8));
+            }
+            part[0] = ((n % 2) as u8) << 4 | (7 - count as u8) << 1 | last as u8;
+            part[1..1 + count].copy_from_slice(&bytes[at..at + count]);
+            script.push(part);
+            at += count;
+            n += 1;
+            if last || n > toggle + 24 {
+                return;
+            }
+            if late && at == bytes.len() && self.r.chance(700) {
+                script.push([((n % 2) as u8) << 4 | 7 << 1 | 1, 0, 0, 0, 0, 0, 0, 0]);
+                return;
+            }
+        }
+    }
+
+    fn write(&mut self, line: &Line, bytes: Vec<u8>) -> Vec<[u8; 8]> {
+        let mut bytes = bytes;
+        if self.r.chance(60) {
+            let wrong = match self.r.below(4) {
+                0 => bytes.len().saturating_sub(1),
+                1 => bytes.len() + 1,
+                2 => self.r.below(12),
+                _ => bytes.len() + self.r.below(40),
+            };
+            bytes.resize(wrong, 0x77);
+        }
+        let mut rest = self.junk4();
+        let form = self.r.below(100);
+        if (bytes.len() <= 4 && form < 60) || form < 3 {
+            let count = bytes.len().clamp(1, 4);
+            bytes.resize(count.max(bytes.len()), 0);
+            rest[..count].copy_from_slice(&bytes[..count]);
+            let first = if self.r.chance(250) { 0x22 | self.r.pick(&[0, 0, 4, 12]) } else { 0x23 | (4 - count as u8) << 2 };
+            return vec![Maker::opening(first, line, rest)];
+        }
+        let mut script = Vec::new();
+        if form < 80 {
+            let announced = match self.r.below(40) {
+                0 => 0,
+                1 => self.r.word(),
+                2 => line.length as u32 + 0x1_0000,
+                3 => line.length as u32 + 1,
+                4 => line.length as u32 - 1,
+                5 | 6 => bytes.len() as u32,
+                _ => line.length as u32,
+            };
+            script.push(Maker::opening(0x21, line, announced.to_le_bytes()));
+        } else {
+            script.push(Maker::opening(0x20 | self.r.pick(&[0, 0, 0, 4, 8, 12, 16]), line, rest));
+        }
+        self.write_parts(&bytes, 0, &mut script);
+        script
+    }
+
+    fn find(index: u16, sub: u8) -> &'static Line {
+        table().iter().find(|l| l.index == index && l.sub == sub).unwrap()
+    }
+
+    fn any_line(&mut self) -> &'static Line {
+        &table()[self.r.below(table().len())]
+    }
+
+    fn long_line(&mut self) -> &'static Line {
+        loop {
+            let line = self.any_line();
+            if line.length > 4 {
+                return line;
+            }
+        }
+    }
+
+    fn writable_line(&mut self) -> &'static Line {
+        loop {
+            let line = self.any_line();
+            if line.access == "RW" {
+                return line;
+            }
+        }
+    }
+
+    fn trip_line(&mut self) -> &'static Line {
+        let (index, enable, level, hysteresis) = self.r.pick(&plain::SIDES);
+        Maker::find(index, self.r.pick(&[enable, level, hysteresis]))
+    }
+
+    /// What a line will say next.
+    fn script(&mut self) -> Vec<[u8; 8]> {
+        let card = Maker::find(0x2010, 0);
+        let label = Maker::find(0x2001, 0);
+        match self.r.below(100) {
+            0..=11 => {
+                let line = self.any_line();
+                self.read(line)
+            }
+            12..=17 => {
+                let line = self.long_line();
+                self.read(line)
+            }
+            18..=27 => self.read(card),
+            28..=31 => self.read(label),
+            32..=41 => {
+                let line = self.writable_line();
+                let value = self.value(line);
+                self.write(line, value)
+            }
+            42..=51 => {
+                let value = self.value(card);
+                self.write(card, value)
+            }
+            52..=57 => {
+                let value = self.value(label);
+                self.write(label, value)
+            }
+            58..=65 => {
+                let line = self.trip_line();
+                let value = self.value(line);
+                self.write(line, value)
+            }
+            66..=73 => {
+                let lock = Maker::find(0x2003, 0);
+                let value = vec![self.r.pick(&[0, 0, 0, 0, 0, 1, 1, 1, 2, 0xFF])];
+                self.write(lock, value)
+            }
+            74..=84 => {
+                let index = self.r.pick(&[0xFBF1, 0xFBF2, 0xFBF2, 0xFBF4, 0xFBF4, 0xFBF0]);
+                // a device reset ends most of what is going on, so it is rare
+                let index = if index == 0xFBF0 && self.r.chance(400) { 0xFBF1 } else { index };
+                let line = Maker::find(index, 1);
+                if self.r.chance(100) {
+                    return self.read(line);
+                }
+                let value = self.value(line);
+                self.write(line, value)
+            }
+            85..=87 => {
+                let line = self.any_line();
+                let value = self.value(line);
+                self.write(line, value)
+            }
+            88..=91 => {
+                let mut line = self.any_line().clone();
+                match self.r.below(4) {
+                    0 => line.sub = self.r.byte(),
+                    1 => line.sub = line.sub.wrapping_add(1),
+                    2 => line.index = line.index.wrapping_add(self.r.pick(&[1, 0xFFFF])),
+                    _ => line.index = self.r.word() as u16,
+                }
+                if self.r.chance(500) {
+                    self.read(&line)
+                } else {
+                    let value = self.value(&line);
+                    self.write(&line, value)
+                }
+            }
+            92..=93 => vec![[0x80, 0, 0, 0, 0, 0, 0, 0]],
+            94 => vec![[self.r.byte() | 0xA0, 1, 2, 3, 4, 5, 6, 7]],
+            95..=96 => {
+                let mut script = Vec::new();
+                self.read_parts(1, self.r.clone().below(2), &mut script);
+                script
+            }
+            97 => {
+                let bytes = self.r.bytes(7);
+                let mut script = Vec::new();
+                self.write_parts(&bytes, 0, &mut script);
+                script
+            }
+            98 => {
+                let status = Maker::find(self.r.pick(&[0xFBF0, 0xFBF1, 0xFBF2, 0xFBF4]), self.r.pick(&[2, 3]));
+                self.read(status)
+            }
+            _ => {
+                let mut message = [0; 8];
+                message.copy_from_slice(&self.r.bytes(8));
+                vec![message]
+            }
+        }
+    }
+
+    fn room(&mut self, least: usize) -> usize {
+        if self.r.chance(100) {
+            least + self.r.below(12)
+        } else {
+            least
+        }
+    }
+
+    fn message(&mut self) {
+        let mut line = self.r.below(2);
+        if self.queues[line].is_empty() {
+            let script = self.script();
+            self.queues[line].extend(script);
+        }
+        // often several in a row
+        let burst = if self.r.chance(300) { 1 + self.r.below(4) } else { 1 };
+        for _ in 0..burst {
+            let Some(mut message) = self.queues[line].pop_front() else {
+                return;
+            };
+            if self.r.chance(25) {
+                match self.r.below(8) {
+                    0 | 1 => message[0] ^= 0x10,
+                    2 => message[self.r.below(8)] ^= 1 << self.r.below(8),
+                    3 => continue,
+                    4 => self.queues[line].push_front(message),
+                    5 => message[0] = self.r.byte(),
+                    6 => line = 1 - line,
+                    _ => message = [0x80, 0, 0, 0, 0, 0, 0, 0],
+                }
+            }
+            let room = self.room(8);
+            self.ops.push(Op::Message { line: line as u32, message, room });
+        }
+    }
+
+    fn sample(&mut self) {
+        let (a, b) = (f32::from_bits(self.real()), f32::from_bits(self.real()));
+        let near = self.r.pick(&[a, a, a + b, a - b, a + b, a - b, b - a, (a + b) / 2.0]);
+        let bits = near.to_bits();
+        let pressure = match self.r.below(16) {
+            0 => self.r.pick(&SPECIAL),
+            1 => self.r.word(),
+            2 | 3 => bits.wrapping_add(1),
+            4 | 5 => bits.wrapping_sub(1),
+            _ => bits,
+        };
+        let valid = self.r.pick(&[1, 1, 1, 1, 1, 1, 1, 1, 0, 2, 0xFF]);
+        let faults = match self.r.below(6) {
+            0 => self.r.word(),
+            1 => self.r.pick(&[1, 2, 1 << 9, 1 << 10]),
+            2 => self.r.pick(&[4, 1 << 8, 1 << 11, 1 << 31, 1 << 16]),
+            _ => 0,
+        };
+        self.seconds = if self.r.chance(50) { self.r.word() } else { self.seconds.wrapping_add(1) };
+        self.ops.push(Op::Sample { pressure, valid, faults, seconds: self.seconds });
+    }
+
+    fn odd(&mut self) {
+        let call = self.r.below(10).min(3) as u8;
+        let call = if call == 3 && self.r.chance(600) { 1 } else { call };
+        let mut size = |right: usize| match self.r.below(24) {
+            0 => 0,
+            1 => right - 1,
+            2 => right + 1,
+            3 => 2 * right,
+            _ => right,
+        };
+        let sizes = [size(1024), size(512), size(256)];
+        let line = self.r.pick(&[0, 1, 0, 1, 2, 3, 256, 0x8000_0000, u32::MAX]);
+        let message = match self.r.below(6) {
+            0 => self.r.bytes(7),
+            1 => self.r.bytes(9),
+            2 => Vec::new(),
+            3 => vec![0x80; 8],
+            _ => self.script()[0].to_vec(),
+        };
+        let room = self.r.pick(&[8, 8, 10, 10, 12, 7, 9, 0, 1, 20]);
+        self.ops.push(Op::Odd { call, line, message, sizes, room });
+    }
+
+    /// A record as it may be lent: most of them fit the table.
+    fn record(&mut self, line: usize) -> Vec<u8> {
+        let n = match self.r.below(10) {
+            0..=3 => self.r.below(table().len()),
+            4 | 5 => table().iter().position(|l| l.index == 0x2010).unwrap(),
+            6 => table().iter().position(|l| l.index == 0x2001).unwrap(),
+            _ => {
+                let line = self.long_line();
+                table().iter().position(|l| std::ptr::eq(l, line)).unwrap()
+            }
+        };
+        let row = &table()[n];
+        let direction = if row.access == "RW" { self.r.pick(&[1, 2, 2]) } else { self.r.pick(&[1, 1, 1, 1, 2]) };
+        let left = self.r.pick(&[0, 1, 6, 7, 8, 13, 14, 15, row.length]).min(row.length);
+        let place = row.length - left;
+        let mut held = if self.r.chance(500) { self.value(row) } else { self.r.bytes(64) };
+        held.resize(64, if self.r.chance(300) { 0xEE } else { 0 });
+        let mut record = held;
+        record.extend((n as u16).to_le_bytes());
+        record.extend([direction, row.length as u8, place as u8, self.r.pick(&[0, 1, 0, 1, 2, 0xFF])]);
+        match self.r.below(30) {
+            0 => record[64..66].copy_from_slice(&(table().len() as u16 + self.r.below(3) as u16).to_le_bytes()),
+            1 => record[65] = self.r.byte(),
+            2 => record[66] = self.r.byte(),
+            3 => record[67] = record[67].wrapping_add(self.r.pick(&[1, 0xFF])),
+            4 => record[68] = record[67] + 1,
+            5 => record[68] = self.r.byte(),
+            6 => record[67] = self.r.byte(),
+            _ => (),
+        }
+        // the line goes on with it
+        let toggle = (record[69] != 0) as usize;
+        self.queues[line].clear();
+        let mut script = Vec::new();
+        if record[66] == 1 {
+            self.read_parts(left.div_ceil(7).max(1), toggle, &mut script);
+        } else {
+            let bytes = self.r.bytes(left);
+            self.write_parts(&bytes, toggle, &mut script);
+        }
+        self.queues[line].extend(script);
+        record
+    }
+
+    /// A saved block: zero, good, damaged or anything.
+    fn block(&mut self) -> Vec<u8> {
+        let kind = self.r.below(12);
+        if kind == 0 {
+            return vec![0; 512];
+        }
+        if kind == 1 {
+            return self.r.bytes(512);
+        }
+        let bad = if kind == 2 { self.r.below(table().len()) } else { usize::MAX };
+        let values: Vec<Vec<u8>> = table()
+            .iter()
+            .enumerate()
+            .map(|(n, line)| {
+                if !line.nv {
+                    return Vec::new();
+                }
+                for _ in 0..20 {
+                    let value = if line.kind == "REAL" && n >= bad {
+                        self.r.pick(&SPECIAL).to_le_bytes().to_vec()
+                    } else {
+                        self.value(line)
+                    };
+                    if n >= bad || plain::judge(line, &value).is_ok() {
+                        return value;
+                    }
+                }
+                line.default()
+            })
+            .collect();
+        let place =
+            |line: &Line| values[table().iter().position(|l| l.index == line.index && l.sub == line.sub).unwrap()].clone();
+        let mut block = Plain::pack(table(), place);
+        if kind == 3 {
+            let at = match self.r.below(6) {
+                0 => self.r.below(8),
+                1 => 4095 - self.r.below(16),
+                2 => 1214 + self.r.below(16),
+                3 => 1213 - self.r.below(8),
+                _ => self.r.below(4096),
+            };
+            block[at / 8] ^= 0x80 >> (at % 8);
+        }
+        block
+    }
+
+    fn lend(&mut self) {
+        let (part, at, bytes) = match self.r.below(10) {
+            0..=3 => {
+                let line = if self.r.chance(400) { self.trip_line() } else { self.any_line() };
+                let Some(place) = line.place else {
+                    return;
+                };
+                let bytes = match line.kind.as_str() {
+                    "REAL" => self.r.pick(&SPECIAL).to_le_bytes().to_vec(),
+                    "BOOL" => vec![self.r.pick(&[0, 1, 2, 3, 0x80, 0xFF])],
+                    _ if self.r.chance(500) => self.value(line),
+                    _ => self.r.bytes(line.length),
+                };
+                (Part::Values, place, bytes)
+            }
+            4 => {
+                let at = self.r.below(1024);
+                (Part::Values, at, vec![self.r.byte()])
+            }
+            5 => (Part::Block, 0, self.block()),
+            6 => {
+                let at = self.r.pick(&[0, 1, 150, 151, 152, 153, 510, 511]);
+                (Part::Block, at, vec![self.r.byte()])
+            }
+            7 | 8 => {
+                let line = self.r.below(2);
+                (Part::State, [0, 96][line], self.record(line))
+            }
+            _ => {
+                let at = self.r.pick(&[192, 193, 194, 195, 192, 193, 194, 195, 70, 95, 166, 191, 196, 255, 64, 66, 160, 162]);
+                (Part::State, at, vec![self.r.pick(&[0, 1, 2, 0x80, 0xFF])])
+            }
+        };
+        self.ops.push(Op::Lend { part, at, bytes });
+    }
+
+    fn memory(&mut self) -> Memory {
+        let mut memory = Memory::zero();
+        memory.block = self.block();
+        if self.style == Style::FromPowerUp || self.r.chance(500) {
+            memory.values = self.r.bytes(1024);
+            if self.r.chance(500) {
+                memory.state = self.r.bytes(256);
+            }
+            self.ops.push(Op::PowerUp);
+            return memory;
+        }
+        match self.r.below(5) {
+            0 => memory.values = self.r.bytes(1024),
+            _ => {
+                memory.values = defaults().to_vec();
+                for _ in 0..self.r.below(12) {
+                    self.lend();
+                }
+            }
+        }
+        if self.r.chance(200) {
+            memory.state = self.r.bytes(256);
+        }
+        for (line, at) in [0, 96].into_iter().enumerate() {
+            if self.r.chance(400) {
+                let record = self.record(line);
+                memory.state[at..at + 70].copy_from_slice(&record);
+            }
+        }
+        for at in 192..196 {
+            memory.state[at] = self.r.pick(&[0, 0, 1, 5]);
+        }
+        memory
+    }
+
+    fn step(&mut self) {
+        let lends = self.style == Style::Any;
+        match self.r.below(1000) {
+            0..=779 => self.message(),
+            780..=929 => self.sample(),
+            930..=949 => {
+                let room = self.room(10);
+                self.ops.push(Op::Image { room });
+            }
+            950..=969 => self.odd(),
+            970..=995 if lends => self.lend(),
+            996 if lends => self.ops.push(Op::PowerUp),
+            _ => self.message(),
+        }
+    }
+}
+
+impl Trace {
+    /// The trace of a number, as the comparison and the mutants have it: every fourth from power-up.
+    pub fn numbered(n: u64) -> Trace {
+        Trace::random(n, if n % 4 == 0 { Style::FromPowerUp } else { Style::Any })
+    }
+
+    /// The trace of a seed.
+    pub fn random(seed: u64, style: Style) -> Trace {
+        let mut r = Random::new(seed);
+        let mut reals = [0; 4];
+        for real in &mut reals {
+            *real = match r.below(8) {
+                0 => f32::from_bits(0x3F00_0000 + r.below(0x100_0000) as u32).to_bits(),
+                1 => r.pick(&[0x8000_0000, 0x44BB_8000, 0, 1]),
+                _ => r.pick(&NICE).to_bits(),
+            };
+        }
+        let mut maker = Maker { r, style, queues: Default::default(), reals, ops: Vec::new(), seconds: 0 };
+        let memory = maker.memory();
+        let length = maker.r.pick(&[20, 60, 150, 300, 500]);
+        while maker.ops.len() < length {
+            maker.step();
+        }
+        Trace { seed, memory, ops: maker.ops }
+    }
+}

@@ -1,0 +1,206 @@
+//! The exported calls against the independent board, on random traces with fixed seeds: every returned number, every answer,
+//! values, block and state, byte for byte.
+
+use board_tests::independent::Model;
+use board_tests::model::fault::Sound;
+use board_tests::subject;
+use board_tests::trace::{apply, difference, shrink, Op, Trace};
+use std::panic::{catch_unwind, AssertUnwindSafe};
+
+const TRACES: u64 = 8_000;
+
+/// A difference, or a guard byte that was written.
+fn differs(trace: &Trace) -> Option<(usize, String)> {
+    match catch_unwind(AssertUnwindSafe(|| difference(trace, &mut subject(), &mut Model(Sound)))) {
+        Ok(found) => found,
+        Err(panic) => {
+            let text = panic.downcast_ref::<String>().cloned().unwrap_or_else(|| "a call panicked".to_string());
+            Some((trace.ops.len() - 1, text))
+        }
+    }
+}
+
+#[test]
+fn on_random_traces() {
+    let (mut counted, mut steps) = (0, 0);
+    for seed in 1..=TRACES {
+        let trace = Trace::numbered(seed);
+        if differs(&trace).is_some() {
+            let short = shrink(&trace, |trace| differs(trace).map(|(n, _)| n));
+            let (n, what) = differs(&short).unwrap();
+            panic!("the board (first) and the independent board (second) differ at step {n} in {what}\nshortest trace: {short}");
+        }
+        counted += trace.ops.iter().filter(|op| op.is_counted()).count();
+        steps += trace.ops.len();
+    }
+    println!("{TRACES} traces, {steps} steps, {counted} messages and samples, no difference");
+    assert!(counted >= 1_000_000, "only {counted} messages and samples");
+}
+
+/// The traces go deep: every kind of answer, command, trip and refusal occurs in them often.
+#[test]
+fn traces_meet_everything() {
+    use board_tests::board::code;
+    use std::collections::BTreeMap;
+    let mut met: BTreeMap<String, usize> = BTreeMap::new();
+    for seed in 1..=2000 {
+        let trace = Trace::numbered(seed);
+        let mut memory = trace.memory.clone();
+        for op in &trace.ops {
+            let before = memory.clone();
+            let (number, room) = apply(op, &mut Model(Sound), &mut memory);
+            let mut meet = |what: String| *met.entry(what).or_default() += 1;
+            match op {
+                Op::Message { line, message, .. } if number == 0 => {
+                    let answer: &[u8; 8] = room.first_chunk().unwrap();
+                    let record = &before.state[96 * *line as usize..][..70];
+                    match answer[0] {
+                        0x80 => meet(format!("abort {:08X}", code(answer))),
+                        first if message[0] >> 5 == 3 => meet(format!("read part, last {}", first & 1)),
+                        _ if message[0] >> 5 == 0 => meet(format!("write part, last {}", message[0] & 1)),
+                        first => meet(format!("answer {first:02X}")),
+                    }
+                    let ends = message[0] >> 5 == 0 && message[0] & 1 == 1 && answer[0] != 0x80;
+                    if ends && record[64..66] == [31, 0] {
+                        meet("card written".to_string());
+                    }
+                    for (name, status) in [("exception reset", 590), ("store", 593), ("load", 596)] {
+                        if before.values[status] != memory.values[status] {
+                            meet(format!("{name} status becomes {}", memory.values[status]));
+                        }
+                    }
+                    if before.block != memory.block {
+                        meet("block written".to_string());
+                    }
+                    if before.state[192..196] != [0; 4] && memory.state[192..196] == [0; 4] {
+                        meet("device reset with a trip on".to_string());
+                    }
+                }
+                Op::Message { .. } => meet(format!("message, number {number}")),
+                Op::Sample { .. } => {
+                    for side in 0..4 {
+                        let (was, is) = (before.state[192 + side] != 0, memory.state[192 + side] != 0);
+                        meet(format!("side {side} {} to {}", was as u8, is as u8));
+                    }
+                }
+                Op::Odd { .. } => meet(format!("call of odd lengths, number {number}")),
+                _ => (),
+            }
+        }
+    }
+    for (what, times) in &met {
+        println!("{times:7}  {what}");
+    }
+    let wanted = [
+        "abort 05030000",
+        "abort 05040001",
+        "abort 06010002",
+        "abort 06020000",
+        "abort 06070012",
+        "abort 06070013",
+        "abort 06090011",
+        "abort 06090030",
+        "abort 06090031",
+        "abort 06090032",
+        "abort 08000022",
+        "answer 41",
+        "answer 43",
+        "answer 4B",
+        "answer 4F",
+        "answer 60",
+        "block written",
+        "card written",
+        "device reset with a trip on",
+        "load status becomes 0",
+        "load status becomes 2",
+        "store status becomes 0",
+        "store status becomes 2",
+        "exception reset status becomes 2",
+        "message, number 5",
+        "side 0 0 to 1",
+        "side 0 1 to 0",
+        "side 0 1 to 1",
+        "side 1 0 to 1",
+        "side 1 1 to 0",
+        "side 2 0 to 1",
+        "side 3 0 to 1",
+        "side 3 1 to 1",
+        "read part, last 1",
+        "write part, last 1",
+        "call of odd lengths, number 1",
+        "call of odd lengths, number 2",
+        "call of odd lengths, number 3",
+        "call of odd lengths, number 4",
+        "call of odd lengths, number 5",
+    ];
+    for what in wanted {
+        assert!(met.get(what).copied().unwrap_or(0) >= 20, "{what} is met too rarely");
+    }
+}
+
+/// Every first byte on every shape of record, on both lines.
+#[test]
+fn every_first_byte_on_every_record() {
+    let rows = board_tests::plain::lines();
+    let mut tried = 0;
+    for first in 0..=255u8 {
+        for direction in 0..4u8 {
+            for (n, row) in rows.iter().enumerate() {
+                if !matches!(
+                    (row.index, row.sub),
+                    (0x2001, 0) | (0x2003, 0) | (0x2010, 0) | (0x1000, 0) | (0xFBF0, 1) | (0xFBF4, 1)
+                ) {
+                    continue;
+                }
+                for left in [0, 1, 6, 7, 8, row.length] {
+                    if left > row.length {
+                        continue;
+                    }
+                    for toggle in [0, 1, 0x80] {
+                        let mut trace = Trace { seed: 0, memory: board_tests::board::Memory::zero(), ops: Vec::new() };
+                        let line = (tried % 2) as usize;
+                        let record = &mut trace.memory.state[96 * line..96 * line + 70];
+                        for (i, byte) in record[..64].iter_mut().enumerate() {
+                            *byte = if i == 0 { 0x10 } else { 0x21 };
+                        }
+                        record[64..66].copy_from_slice(&(n as u16).to_le_bytes());
+                        record[66..70].copy_from_slice(&[direction, row.length as u8, (row.length - left) as u8, toggle]);
+                        let [low, high] = row.index.to_le_bytes();
+                        let message = [first, low, high, row.sub, row.length as u8, 0, 0, 0];
+                        trace.ops.push(Op::Message { line: line as u32, message, room: 8 });
+                        if let Some((_, what)) = differs(&trace) {
+                            panic!("difference in {what}\n{trace}");
+                        }
+                        tried += 1;
+                    }
+                }
+            }
+        }
+    }
+    println!("{tried} messages on lent records, no difference");
+}
+
+/// Every index and subindex near a row is read and written, so that every absent key beside a present one is met.
+#[test]
+fn every_key_near_a_row() {
+    let mut tried = 0;
+    for row in board_tests::plain::lines() {
+        for index in [row.index.wrapping_sub(1), row.index, row.index.wrapping_add(1)] {
+            for sub in 0..=255u8 {
+                for first in [0x40, 0x2F, 0x2B, 0x23, 0x22, 0x20] {
+                    let [low, high] = index.to_le_bytes();
+                    let message = [first, low, high, sub, 1, 0, 0, 0];
+                    let ops = vec![Op::PowerUp, Op::Message { line: 0, message, room: 8 }];
+                    let trace = Trace { seed: 0, memory: board_tests::board::Memory::zero(), ops };
+                    // the power-up is only needed once in a while; the zeros of the memory are values too
+                    let trace = if sub % 16 == 0 { trace } else { Trace { ops: trace.ops[1..].to_vec(), ..trace } };
+                    if let Some((_, what)) = differs(&trace) {
+                        panic!("difference in {what}\n{trace}");
+                    }
+                    tried += 1;
+                }
+            }
+        }
+    }
+    println!("{tried} openings, no difference");
+}

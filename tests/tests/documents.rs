@@ -1,0 +1,363 @@
+//! The documents against each other and against the calls: the object table's two printed forms, its rule, document 01's examples
+//! A to K, and the coating shop's story.
+
+use board_tests::board::Desk;
+use board_tests::model::table::{Kind, COUNT, FIELDS_END, ROWS};
+use board_tests::plain::{judge, lines, Plain};
+use board_tests::subject;
+
+const ROWS_PRINTED: &str = include_str!("../../crates/rows/stdout");
+
+#[test]
+fn the_page_and_the_printed_rows_are_alike() {
+    let page: Vec<String> = lines()
+        .iter()
+        .map(|l| {
+            let place = l.place.map_or("-".to_string(), |p| p.to_string());
+            let nv = if l.nv { "NV" } else { "-" };
+            let [low, high, default] = &l.printed;
+            format!("{:04X} {:02X} {} {} {nv} {} {place} {low} {high} {default}", l.index, l.sub, l.kind, l.access, l.length)
+        })
+        .collect();
+    let printed: Vec<&str> = ROWS_PRINTED.lines().collect();
+    assert_eq!(page, printed);
+    println!("{} rows", page.len());
+}
+
+#[test]
+fn the_table_keeps_its_rule() {
+    let lines = lines();
+    assert!(lines.len() <= 511);
+    let mut used = [false; 1024];
+    for line in &lines {
+        assert!((1..=64).contains(&line.length), "{line:?}");
+        match line.place {
+            Some(place) => {
+                for at in place..place + line.length {
+                    assert!(!used[at], "{line:?} overlaps");
+                    used[at] = true;
+                }
+            }
+            None => assert!(line.kind == "CARD" || line.kind == "COMMAND", "{line:?}"),
+        }
+        if !matches!(line.kind.as_str(), "STRING" | "CARD" | "COMMAND") {
+            assert_eq!(judge(line, &line.default()), Ok(()), "{line:?}");
+            let width = 2 * line.length;
+            assert!(line.printed.iter().all(|text| text.len() == width), "{line:?}");
+        }
+    }
+    for pair in lines.windows(2) {
+        assert!((pair[0].index, pair[0].sub) < (pair[1].index, pair[1].sub), "{pair:?}");
+    }
+    let bits: usize = lines.iter().filter(|l| l.nv).map(|l| if l.kind == "BOOL" { 1 } else { 8 * l.length }).sum();
+    assert_eq!(FIELDS_END, 8 + bits);
+    assert!(8 + bits <= 4096);
+}
+
+#[test]
+fn the_independent_table_is_the_page() {
+    let lines = lines();
+    assert_eq!(COUNT, lines.len());
+    for (row, line) in ROWS.iter().zip(&lines) {
+        let kind = match line.kind.as_str() {
+            "BOOL" => Kind::Bool,
+            "USINT" => Kind::Usint,
+            "UINT" => Kind::Uint,
+            "UDINT" => Kind::Udint,
+            "ULINT" => Kind::Ulint,
+            "REAL" => Kind::Real,
+            "STRING" => Kind::Str,
+            "CARD" => Kind::Card,
+            _ => Kind::Command,
+        };
+        assert_eq!(row.key, (line.index as u32) << 8 | line.sub as u32);
+        assert_eq!((row.kind, row.len as usize, row.nv), (kind, line.length, line.nv));
+        assert_eq!((row.readable, row.writable), (line.access != "WO", line.access != "RO"));
+        assert_eq!((row.min, row.max), (line.minimum(), line.maximum()));
+        if let Some(place) = line.place {
+            assert_eq!(row.place as usize, place);
+        }
+    }
+}
+
+/// A dialogue on one line, with zeros behind what is shown.
+fn dialogue(line: u32, exchanges: &[(&str, &str)]) {
+    let mut desk = Desk::new(subject());
+    for (message, answer) in exchanges {
+        let mut expected: Vec<&str> = answer.split_whitespace().collect();
+        expected.resize(8, "00");
+        assert_eq!(desk.hex(line, message), expected.join(" "), "to {message}");
+    }
+}
+
+#[test]
+fn examples_a_to_i() {
+    for line in [0, 1] {
+        // A to F
+        dialogue(
+            line,
+            &[
+                ("40 03 20 00", "4F 03 20 00"),
+                ("2F 03 20 00 01", "60 03 20 00"),
+                ("40 03 20 00", "4F 03 20 00 01"),
+                ("2F 03 20 00 02", "80 03 20 00 31 00 09 06"),
+                ("40 03 20 01", "80 03 20 01 11 00 09 06"),
+                ("40 04 20 00", "80 04 20 00 00 00 02 06"),
+                ("60", "80 00 00 00 01 00 04 05"),
+            ],
+        );
+        // G
+        dialogue(
+            line,
+            &[("40 10 20 00", "41 10 20 00 21"), ("70", "80 10 20 00 00 00 03 05"), ("60", "80 00 00 00 01 00 04 05")],
+        );
+        // H
+        dialogue(
+            line,
+            &[
+                ("21 10 20 00 22", "80 10 20 00 12 00 07 06"),
+                ("21 10 20 00 20", "80 10 20 00 13 00 07 06"),
+                ("21 10 20 00 21", "60 10 20 00"),
+            ],
+        );
+        // I
+        dialogue(line, &[("2F 03 20 00 01", "60 03 20 00"), ("23 F4 FB 01 6C 6F 61 64", "80 F4 FB 01 22 00 00 08")]);
+    }
+}
+
+#[test]
+fn example_j() {
+    let mut desk = Desk::new(subject());
+    assert_eq!(desk.hex(0, "40 01 20 00"), "41 01 20 00 20 00 00 00");
+    assert_eq!(desk.hex(0, "60"), "00 00 00 00 00 00 00 00");
+    assert_eq!(desk.hex(1, "21 01 20 00 20"), "60 01 20 00 00 00 00 00");
+    for (part, answer) in [
+        ("00 41 41 41 41 41 41 41", "20"),
+        ("10 41 41 41 41 41 41 41", "30"),
+        ("00 41 41 41 41 41 41 41", "20"),
+        ("10 41 41 41 41 41 41 41", "30"),
+        ("07 41 41 41 41", "20"),
+    ] {
+        assert_eq!(desk.hex(1, part), format!("{answer} 00 00 00 00 00 00 00"));
+    }
+    for (part, answer) in [("70", "10"), ("60", "00"), ("70", "10"), ("60", "07")] {
+        assert_eq!(desk.hex(0, part), format!("{answer} 00 00 00 00 00 00 00"));
+    }
+    assert_eq!(desk.read(0, 0x2001, 0), Ok(vec![0x41; 32]));
+    assert_eq!(desk.read(1, 0x2001, 0), Ok(vec![0x41; 32]));
+}
+
+#[test]
+fn example_k() {
+    let mut desk = Desk::new(subject());
+    let reals = |x: f32| x.to_bits().to_le_bytes();
+    assert_eq!(desk.write(0, 0x800E, 0x02, &[1]), Ok(()));
+    assert_eq!(desk.write(0, 0x800E, 0x14, &reals(0.5)), Ok(()));
+    assert_eq!(desk.write(0, 0x800E, 0x18, &reals(0.125)), Ok(()));
+    for (pressure, on) in [(0.5, 0), (0.25, 1), (0.625, 1), (0.75, 0)] {
+        desk.sample(pressure, 1, 0, 1);
+        assert_eq!(desk.read(1, 0x600E, 0x02), Ok(vec![on]));
+        assert_eq!(desk.read(1, 0x600E, 0x01), Ok(vec![0]));
+        assert_eq!(desk.read(1, 0xF641, 0x01), Ok(vec![on << 1, 0, 0, 0]));
+        assert_eq!(desk.memory.state[192..196], [0, on, 0, 0]);
+        let p = reals(pressure);
+        assert_eq!(desk.image(), [1, p[0], p[1], p[2], p[3], 0, on << 1, 0, 0, 0]);
+    }
+    let mut card = [0; 33];
+    card[0] = 0x14;
+    card[9] = 0xFC;
+    card[13] = 0xF8;
+    assert_eq!(desk.read(1, 0x2010, 0), Ok(card.to_vec()));
+    desk.hex(0, "40 10 20 00");
+    for (part, first) in [("60", "00"), ("70", "10"), ("60", "00"), ("70", "10"), ("60", "05")] {
+        assert_eq!(desk.hex(0, part)[..2], *first);
+    }
+}
+
+/// Bytes written between back quotes.
+fn quoted(text: &str) -> Vec<String> {
+    text.split('`').skip(1).step_by(2).map(str::to_string).collect()
+}
+
+/// docs/ABORT-CODES.md: each code's example is the board's answer, the codes stand in the order of the checks, and no code of the
+/// independent board is left out.
+#[test]
+fn abort_codes_of_the_page() {
+    use board_tests::model::code;
+    let page = include_str!("../../docs/ABORT-CODES.md");
+    let order: Vec<u32> = page
+        .lines()
+        .filter_map(|line| line.strip_prefix("| ")?.split(" |").next())
+        .filter(|cell| cell.len() == 8)
+        .filter_map(|cell| u32::from_str_radix(cell, 16).ok())
+        .collect();
+    assert_eq!(
+        order,
+        [
+            code::NO_TRANSFER,
+            code::TOGGLE,
+            code::NO_INDEX,
+            code::NO_SUBINDEX,
+            code::WRITE_ONLY,
+            code::READ_ONLY,
+            code::TOO_LONG,
+            code::TOO_SHORT,
+            code::LOCKED,
+            code::OUT_OF_RANGE,
+            code::ABOVE,
+            code::BELOW,
+        ]
+    );
+    let mut tried = Vec::new();
+    let mut heading = 0;
+    for line in page.lines() {
+        if let Some(text) = line.strip_prefix("### ") {
+            heading = u32::from_str_radix(text, 16).unwrap();
+        }
+        let Some(example) = line.strip_prefix("- **Example:**") else {
+            continue;
+        };
+        let [message, answer, ..] = &quoted(example)[..] else {
+            continue;
+        };
+        if heading == code::WRITE_ONLY {
+            continue;
+        }
+        let mut desk = Desk::new(subject());
+        match heading {
+            code::TOGGLE => drop(desk.hex(0, "40 10 20 00")),
+            code::LOCKED => assert_eq!(desk.write(1, 0x2003, 0, &[1]), Ok(())),
+            _ => (),
+        }
+        assert_eq!(desk.hex(0, message), *answer, "example of {heading:08X}");
+        let code: Vec<u8> = answer.split(' ').skip(4).map(|byte| u8::from_str_radix(byte, 16).unwrap()).collect();
+        assert_eq!(code, heading.to_le_bytes(), "example of {heading:08X}");
+        tried.push(heading);
+    }
+    order
+        .iter()
+        .filter(|&&code| code != code::WRITE_ONLY)
+        .for_each(|code| assert!(tried.contains(code), "{code:08X} has no example"));
+}
+
+/// include/gauge.h: the numbers and sizes that the calls have.
+#[test]
+fn constants_of_the_header() {
+    let header = include_str!("../../include/gauge.h");
+    let constants: Vec<(&str, u32)> = header
+        .lines()
+        .filter_map(|line| {
+            let mut words = line.strip_prefix("#define GAUGE_")?.split_whitespace();
+            Some((words.next()?, words.next()?.trim_end_matches('u').parse().ok()?))
+        })
+        .collect();
+    let expected = [
+        ("VALUES_SIZE", 1024),
+        ("BLOCK_SIZE", 512),
+        ("STATE_SIZE", 256),
+        ("MESSAGE_SIZE", 8),
+        ("ANSWER_SIZE", 8),
+        ("IMAGE_SIZE", 10),
+        ("LINE_TOOL", 0),
+        ("LINE_SERVICE", 1),
+        ("DONE", 0),
+        ("BAD_MESSAGE", 1),
+        ("SHORT_ROOM", 2),
+        ("BAD_LINE", 3),
+        ("BAD_MEMORY", 4),
+        ("CLIENT_ABORT", 5),
+    ];
+    assert_eq!(constants, expected);
+}
+
+fn card_of(levels: [f32; 8]) -> Vec<u8> {
+    let mut bits = board_tests::plain::bits_of(1, 4);
+    for point in levels.chunks(4) {
+        bits.extend([true, true]);
+        for level in point {
+            bits.extend(board_tests::plain::bits_of(level.to_bits() as u64, 32));
+        }
+    }
+    board_tests::plain::bytes_of(&bits)
+}
+
+/// A load on line 1 between the parts of a card read on line 0: the read is the old pair, whole; the next is the new pair, whole;
+/// written back, either gives one of the two pairs. Tried at every place between the messages of the read.
+#[test]
+fn the_coating_shop() {
+    let old = card_of([2.0, 0.5, 0.25, 0.125, 20.0, 5.0, 0.5, 0.0625]);
+    let new = card_of([3.0, 0.75, 0.0625, 0.25, 30.0, 7.5, 1.0, 0.5]);
+    for gap in 1..=5 {
+        let mut desk = Desk::new(subject());
+        assert_eq!(desk.write(1, 0x2010, 0, &new), Ok(()));
+        assert_eq!(desk.write(1, 0xFBF2, 1, b"save"), Ok(()));
+        assert_eq!(desk.read(1, 0xFBF2, 2), Ok(vec![0]));
+        assert_eq!(desk.write(0, 0x2010, 0, &old), Ok(()));
+        assert_eq!(desk.hex(0, "40 10 20 00"), "41 10 20 00 21 00 00 00");
+        let mut got = Vec::new();
+        for part in 0..5u8 {
+            if part + 1 == gap {
+                assert_eq!(desk.hex(1, "23 F4 FB 01 6C 6F 61 64"), "60 F4 FB 01 00 00 00 00");
+                assert_eq!(desk.read(1, 0x2010, 0), Ok(new.clone()));
+            }
+            let answer = desk.say(0, [0x60 | (part % 2) << 4, 0, 0, 0, 0, 0, 0, 0]).unwrap();
+            got.extend(&answer[1..8 - (answer[0] >> 1 & 7) as usize]);
+        }
+        assert_eq!(got, old);
+        assert_eq!(desk.read(0, 0x2010, 0), Ok(new.clone()));
+        assert_eq!(desk.write(0, 0x2010, 0, &got), Ok(()));
+        assert_eq!(desk.read(1, 0x2010, 0), Ok(old.clone()));
+        assert_eq!(desk.write(0, 0x2010, 0, &new), Ok(()));
+        assert_eq!(desk.read(1, 0x2010, 0), Ok(new.clone()));
+    }
+}
+
+/// What was stored comes back by load and by device reset, and the answer to a device reset is given before it.
+#[test]
+fn store_load_and_reset() {
+    let mut desk = Desk::new(subject());
+    let label = *b"coating line 4, chamber B, gauge";
+    assert_eq!(desk.write(0, 0x2001, 0, &label), Ok(()));
+    assert_eq!(desk.write(0, 0xFBF2, 1, b"save"), Ok(()));
+    let nv: Vec<_> = lines().into_iter().filter(|l| l.nv).collect();
+    let expected = Plain::pack(&nv, |l| if l.index == 0x2001 { label.to_vec() } else { l.default() });
+    assert!(desk.memory.block == expected);
+    assert_eq!(desk.write(0, 0x2001, 0, &[0x42; 32]), Ok(()));
+    assert_eq!(desk.write(1, 0xFBF4, 1, b"load"), Ok(()));
+    assert_eq!(desk.read(0, 0x2001, 0), Ok(label.to_vec()));
+    assert_eq!(desk.write(0, 0x2001, 0, &[0x42; 32]), Ok(()));
+    desk.hex(0, "40 01 20 00");
+    assert_eq!(desk.write(1, 0xFBF0, 1, b"teser\0"), Ok(()));
+    assert_eq!(desk.hex(0, "60"), "80 00 00 00 01 00 04 05");
+    assert_eq!(desk.read(0, 0x2001, 0), Ok(label.to_vec()));
+    // a damaged block: load gives status 2 and changes nothing, power-up takes the defaults
+    desk.memory.block[511] = 1;
+    assert_eq!(desk.write(0, 0x2001, 0, &[0x42; 32]), Ok(()));
+    assert_eq!(desk.write(1, 0xFBF4, 1, b"load"), Ok(()));
+    assert_eq!(desk.read(1, 0xFBF4, 2), Ok(vec![2]));
+    assert_eq!(desk.read(1, 0xFBF4, 3), Ok(vec![2, 0]));
+    assert_eq!(desk.read(0, 0x2001, 0), Ok(vec![0x42; 32]));
+    assert_eq!(desk.power_up(), 0);
+    assert_eq!(desk.read(0, 0x2001, 0), Ok(vec![0; 32]));
+}
+
+/// Faults are kept or dropped, latched and cleared, and shown in the summary byte.
+#[test]
+fn exception_words() {
+    let mut desk = Desk::new(subject());
+    desk.sample(1.0, 1, 0xFFFF_FFFF, 1);
+    assert_eq!(desk.read(0, 0x9005, 2), Ok(vec![0x03, 0x06]));
+    assert_eq!(desk.read(0, 0xF383, 1), Ok(vec![0x03, 0x06, 0, 0]));
+    assert_eq!(desk.read(0, 0xF393, 1), Ok(vec![0x03, 0x06, 0, 0]));
+    assert_eq!(desk.read(0, 0xF380, 0), Ok(vec![4]));
+    assert_eq!(desk.image()[5], 4);
+    desk.sample(1.0, 1, 1, 2);
+    assert_eq!(desk.read(0, 0xF383, 1), Ok(vec![1, 0, 0, 0]));
+    assert_eq!(desk.read(0, 0xF393, 1), Ok(vec![0x03, 0x06, 0, 0]));
+    assert_eq!(desk.write(0, 0xFBF1, 1, b"teser"), Ok(()));
+    assert_eq!(desk.read(0, 0xF393, 1), Ok(vec![0; 4]));
+    assert_eq!(desk.read(0, 0xF380, 0), Ok(vec![4]));
+    desk.sample(1.0, 1, 0, 3);
+    assert_eq!(desk.read(0, 0xF380, 0), Ok(vec![0]));
+    assert_eq!(desk.read(0, 0xF9F6, 0), Ok(vec![3, 0, 0, 0]));
+}
