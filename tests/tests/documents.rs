@@ -240,6 +240,41 @@ fn abort_codes_of_the_page() {
         .for_each(|code| assert!(tried.contains(code), "{code:08X} has no example"));
 }
 
+/// Every file of Rattle below a crate's src/ and specs/.
+fn sources(folder: &std::path::Path, found: &mut Vec<std::path::PathBuf>) {
+    for item in std::fs::read_dir(folder).unwrap() {
+        let path = item.unwrap().path();
+        let name = path.file_name().unwrap().to_str().unwrap().to_string();
+        if path.is_dir() && name != "proofs" && name != "must-fail" {
+            sources(&path, found);
+        } else if name.ends_with(".rt") || name.ends_with(".antt") {
+            found.push(path);
+        }
+    }
+}
+
+/// docs/ABORT-CODES.md lists exactly the abort codes that stand in the proved code and its definitions.
+#[test]
+fn abort_codes_of_the_code() {
+    let crates = std::path::Path::new(env!("CARGO_MANIFEST_DIR")).join("../crates");
+    let mut files = Vec::new();
+    sources(&crates, &mut files);
+    let mut codes = std::collections::BTreeSet::new();
+    for file in files {
+        let text = std::fs::read_to_string(file).unwrap();
+        for part in text.split("0x0").skip(1) {
+            let digits: String = part.chars().take_while(char::is_ascii_hexdigit).collect();
+            if digits.len() == 7 && ('5'..='8').contains(&digits.chars().next().unwrap()) {
+                codes.insert(format!("0{}", digits.to_uppercase()));
+            }
+        }
+    }
+    let page = include_str!("../../docs/ABORT-CODES.md");
+    let listed: std::collections::BTreeSet<String> =
+        page.lines().filter_map(|line| line.strip_prefix("### ")).map(str::to_string).collect();
+    assert_eq!(listed, codes);
+}
+
 /// include/gauge.h: the numbers and sizes that the calls have.
 #[test]
 fn constants_of_the_header() {

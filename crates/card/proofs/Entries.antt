@@ -1,6 +1,6 @@
 -- The card and the rows of the object table: whose limits judge a level, and which rows a card's write leaves. Each is one computed test over the table. Assumes nothing.
 use mathlib.Core.Bool.{Bool, true, false, _&&_, _||_}
-use mathlib.Core.Path.{_≡_, refl}
+use mathlib.Core.Path.{_≡_}
 use mathlib.Core.List.{List}
 use Prim.Native.Nat.{ℕ, _<_}
 use native.Mathlib.Omega.{arith}
@@ -10,7 +10,7 @@ use Rattle.table.specs.Row.{Row, no-row, REAL}
 use Rattle.table.specs.Rows.{rows, row-count, at-row}
 use Rattle.table.specs.Rule.{pick, held}
 use Rattle.table.specs.Walk.{both, every}
-use Rattle.table.proofs.Walks.{every-at, both-left, both-right}
+use Rattle.table.proofs.Walks.{T-true, every-at, both-left, both-right}
 use Rattle.table.proofs.Table.{rows-length}
 use Rattle.entry.specs.Entry.{entry-of, number-verdict}
 use Rattle.card.specs.Card.{level-verdict, with-card}
@@ -53,10 +53,6 @@ beside-ok card r = pick (trip-enable r || trip-level r) true (clear (card-writes
 all-beside : (card : List ℕ) → T (every (beside-ok card) rows)
 unfolding rows every beside-ok trip-enable trip-level held pick
 all-beside card = tt
-
-T-true : (b : Bool) → T b → b ≡ true
-T-true true t = refl
-T-true false t = absurd t
 
 -- a card's write leaves every other row
 pub with-card-other : (values card : List ℕ) → length values ≡ 1024 → (k : ℕ) → k < row-count → trip-enable (at-row k) || trip-level (at-row k) ≡ false → entry-of (at-row k) (with-card values card) ≡ entry-of (at-row k) values

@@ -7,3 +7,4 @@ pub mod PowerUp
 pub mod Commands
 pub mod Endings
 pub mod Whole
+pub mod Checks

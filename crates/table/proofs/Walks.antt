@@ -17,6 +17,10 @@ lt-or-ge m n = go (ltb m n) refl
     go true e = inl (ltb-true m n e)
     go false e = inr (ltb-false m n e)
 
+pub T-true : (b : Bool) → T b → b ≡ true
+T-true true t = refl
+T-true false t = absurd t
+
 pub both-left : (a b : Bool) → T (both a b) → T a
 both-left true b t = tt
 both-left false b t = t

@@ -1,0 +1,223 @@
+-- What a reader of document 01 asks of whole reads, writes and commands, one law for each sentence. Assumes nothing.
+use mathlib.Core.Path.{_≡_, refl, sym, ap, _∙_}
+use mathlib.Core.Bool.{Bool, true, false, cond, _&&_, _||_, or-true}
+use mathlib.Core.List.{List}
+use Prim.Native.Nat.{ℕ, _+_, _<_, _≤_}
+use native.Mathlib.Omega.{arith}
+use lib.Dec.{T, leb, eqb}
+use lib.ListN.{length, replicate}
+use borrow.Author.Tests.{le-leb, eq-eqb, eqb-true}
+use Rattle.wire.specs.Splice.{splice, apart}
+use Rattle.wire.specs.Little.{little}
+use Rattle.wire.proofs.SpliceLaws.{length-splice, splice-length, part-apart}
+use Rattle.wire.proofs.LittleLaws.{Bytes, length-little, put-length}
+use Rattle.order.specs.Talk.{Said, Outcome, stored, restarted, declined}
+use Rattle.table.specs.Row.{Row, no-row, CARD, COMMAND}
+use Rattle.table.specs.Rows.{rows, row-count, at-row}
+use Rattle.table.specs.Rule.{pick, held}
+use Rattle.table.specs.Walk.{every}
+use Rattle.table.specs.Find.{find-row}
+use Rattle.table.proofs.Walks.{T-true, every-at}
+use Rattle.table.proofs.Table.{rows-length, lock-found}
+use Rattle.table.specs.Places.{latched-status, summary-byte}
+use Rattle.entry.specs.Limits.{verdict-code}
+use Rattle.entry.specs.Entry.{entry-of}
+use Rattle.entry.specs.Entry as entry
+use Rattle.entry.specs.declared.limits.Verdict.{Verdict}
+use Rattle.entry.specs.declared.limits.Verdict.the-variants.{Within, NotANumber, Above, Below}
+use Rattle.entry.proofs.Entries.{row-store-read}
+use Rattle.card.specs.Card.{card-of, with-card}
+use Rattle.card.proofs.RoundTrip.{card-back}
+use Rattle.block.specs.Saved.{loaded}
+use Rattle.block.proofs.Theorems.{length-loaded, load-other}
+use Rattle.sample.specs.Faults.{summary, with-summary}
+use Rattle.gauge.specs.Memory.{Memory, with-values}
+use Rattle.gauge.specs.Words.{word-of, status-of, with-status, same-bytes}
+use Rattle.gauge.specs.Lock.{guarded, locked}
+use Rattle.gauge.specs.Exceptions.{exceptions-cleared}
+use Rattle.gauge.specs.PowerUp.{powered-up}
+use Rattle.gauge.specs.Commands.{done, obeyed}
+use Rattle.gauge.specs.Endings.{left, left-by}
+use Rattle.gauge.specs.Whole.{value-of, first-code, verdict-of, last-checks, effect, accepted, commit-row}
+use Rattle.gauge.specs.Checks.{asked, fails, under-lock, row-number}
+use Rattle.gauge.specs.declared.commit.Ending.the-variants.{Refused}
+use Rattle.gauge.specs.declared.word.Command.{Command}
+use Rattle.gauge.specs.declared.word.Command.the-variants.{DeviceReset, ExceptionReset, StoreParameters, LoadParameters}
+use Rattle.gauge.proofs.CommitLaws.{of-card, of-other, other-held, card-length, lock-refuses, limits-first, card-judged}
+
+-- "The lock .. never [refuses writes] to itself"
+pub lock-open : (s : Said) (bytes values : List ℕ) → fails under-lock (asked (find-row 0x2003 0) s bytes values) ≡ false
+unfolding fails row-number locked guarded rows
+lock-open s bytes values = rw lock-found
+
+-- what is refused changes nothing
+pub refused-keeps : (r : Row) (bytes : List ℕ) (m : Memory) (c : ℕ) → commit-row r bytes m ≡ declined c → left-by m (commit-row r bytes m) ≡ left (Refused c) (m .values) (m .block)
+unfolding left-by
+refused-keeps r bytes m c e = rw e
+
+-- "Device reset answers, then does power-up"
+pub reset-is-power-up : (m : Memory) → obeyed DeviceReset (word-of DeviceReset) m ≡ restarted (powered-up m)
+unfolding obeyed same-bytes word-of done
+reset-is-power-up m = refl
+
+-- ---- accepted writes
+
+accepted-code : (code : ℕ) (o : Outcome Memory) (n : Memory) → accepted code o ≡ stored n → (code ≡ 0) × (o ≡ stored n)
+unfolding accepted
+accepted-code code o n e = go (eqb code 0) refl e
+  where
+    go : (b : Bool) → eqb code 0 ≡ b → cond b o (declined code) ≡ stored n → (code ≡ 0) × (o ≡ stored n)
+    go true t e = (eqb-true code 0 t, e)
+    go false t e = absurd (let z : _≡_ {A = ℕ} 0 1 = cc in omega arith)
+
+only-one : (x n : Memory) → _≡_ {A = Outcome Memory} (stored x) (stored n) → x ≡ n
+only-one x n e = cc
+
+no-code : (v : Verdict) → verdict-code v ≡ 0 → v ≡ Within
+unfolding verdict-code
+no-code Within e = refl
+no-code NotANumber e = absurd (omega arith)
+no-code Above e = absurd (omega arith)
+no-code Below e = absurd (omega arith)
+
+-- they passed the lock and lie within the limits
+module _ (r : Row) (bytes : List ℕ) (m n : Memory) (done : commit-row r bytes m ≡ stored n) where
+  passed : (first-code (last-checks r (m .values) bytes) ≡ 0) × (effect r bytes m ≡ stored n)
+  unfolding commit-row
+  passed = accepted-code _ _ n done
+
+  pub accepted-unlocked : locked r (m .values) ≡ false
+  accepted-unlocked = go (locked r (m .values)) refl
+    where
+      go : (b : Bool) → locked r (m .values) ≡ b → b ≡ false
+      go true t = absurd (omega (arith, lock-refuses r (m .values) bytes t ∙ passed .0))
+      go false t = refl
+
+  pub accepted-within : verdict-of r bytes ≡ Within
+  accepted-within = no-code (verdict-of r bytes) (limits-first r (m .values) bytes (verdict-of r bytes) refl accepted-unlocked ∙ passed .0)
+
+-- a stored entry reads as the bytes that were written
+module _ (k : ℕ) (there : k < row-count) (no-card : at-row k .kind ≡ CARD → ⊥) (no-command : at-row k .kind ≡ COMMAND → ⊥) where
+  pub write-read : (bytes : List ℕ) (m n : Memory) → length (m .values) ≡ 1024 → length bytes ≡ at-row k .len → commit-row (at-row k) bytes m ≡ stored n → value-of (at-row k) (n .values) ≡ bytes
+  unfolding effect value-of
+  write-read bytes m n long size e =
+      let r : Row = at-row k in
+      let v : entry.stored r (m .values) bytes ≡ n .values = ap (λ (x : Memory). x .values) (only-one _ n (sym (of-other r (r .kind) refl _ _ _ no-card no-command) ∙ passed r bytes m n e .1)) in
+      of-other r (r .kind) refl _ _ _ no-card no-command
+      ∙ ap (entry-of r) (sym v)
+      ∙ row-store-read k there (m .values) bytes long (size ∙ sym (other-held k there no-card no-command))
+
+-- and so does the card
+pub card-write-read : (k : ℕ) → k < row-count → at-row k .kind ≡ CARD → (bytes : List ℕ) → Bytes bytes → (m n : Memory) → length (m .values) ≡ 1024 → length bytes ≡ at-row k .len
+    → commit-row (at-row k) bytes m ≡ stored n → value-of (at-row k) (n .values) ≡ bytes
+unfolding effect value-of
+card-write-read k there card bytes small m n long size e =
+    let r : Row = at-row k in
+    let v : with-card (m .values) bytes ≡ n .values = ap (λ (x : Memory). x .values) (only-one _ n (sym (of-card r (r .kind) refl _ _ _ card) ∙ passed r bytes m n e .1)) in
+    of-card r (r .kind) refl _ _ _ card
+    ∙ ap card-of (sym v)
+    ∙ card-back (m .values) bytes long (size ∙ card-length k there card) small (sym (card-judged r (m .values) bytes card) ∙ accepted-within r bytes m n e)
+
+-- ---- what a command leaves
+
+-- the entries that document 01 names for a command: its own status and response; "the latched words" and the summary; the NV entries
+unfoldable pub named : Command → Row → Bool
+named DeviceReset r = eqb (r .index) 0xFBF0
+named ExceptionReset r = eqb (r .index) 0xFBF1 || (eqb (r .index) 0xF380 || (leb 0xF390 (r .index) && leb (r .index) 0xF398))
+named StoreParameters r = eqb (r .index) 0xFBF2
+named LoadParameters r = eqb (r .index) 0xFBF4 || eqb (r .nv) 1
+
+-- the bytes from a place on, n of them, are none of the row's, or the row is named
+spared : Command → ℕ → ℕ → Row → Bool
+spared c at n r = pick (named c r) true (apart at n (r .place) (held r))
+
+module _ (c : Command) (at n : ℕ) (pass : T (every (spared c at n) rows)) where
+  spare : (values bytes : List ℕ) → leb at (length values) ≡ true → length bytes ≡ n → (j : ℕ) → j < row-count → named c (at-row j) ≡ false → entry-of (at-row j) (splice values at bytes) ≡ entry-of (at-row j) values
+  unfolding entry-of spared pick
+  spare values bytes room size j h e =
+      part-apart values at bytes room (at-row j .place) (held (at-row j))
+      (rw size (T-true _ (rw e at (every-at (spared c at n) rows no-row pass j (omega (arith, rows-length))))))
+
+status-spared : (c : Command) → T (every (spared c (status-of c) 1) rows)
+unfolding rows every spared named pick held status-of
+status-spared DeviceReset = tt
+status-spared ExceptionReset = tt
+status-spared StoreParameters = tt
+status-spared LoadParameters = tt
+
+response-spared : (c : Command) → T (every (spared c (status-of c + 1) 1) rows)
+unfolding rows every spared named pick held status-of
+response-spared DeviceReset = tt
+response-spared ExceptionReset = tt
+response-spared StoreParameters = tt
+response-spared LoadParameters = tt
+
+latched-spared : T (every (spared ExceptionReset latched-status 33) rows)
+unfolding rows every spared named pick held
+latched-spared = tt
+
+summary-spared : T (every (spared ExceptionReset summary-byte 1) rows)
+unfolding rows every spared named pick held
+summary-spared = tt
+
+-- status and response byte 0 are no other row's
+module _ (c : Command) (code : ℕ) (values : List ℕ) (long : length values ≡ 1024) where
+  inside-values : (status-of c + 2 ≤ 1024)
+  unfolding status-of
+  inside-values = go c
+    where
+      go : (c : Command) → status-of c + 2 ≤ 1024
+      go DeviceReset = omega arith
+      go ExceptionReset = omega arith
+      go StoreParameters = omega arith
+      go LoadParameters = omega arith
+
+  half-length : length (splice values (status-of c) (little 1 code)) ≡ 1024
+  half-length = length-splice values (status-of c) (little 1 code) (omega (arith, inside-values, length-little 1 code)) ∙ long
+
+  pub status-leaves : (j : ℕ) → j < row-count → named c (at-row j) ≡ false → entry-of (at-row j) (with-status c code values) ≡ entry-of (at-row j) values
+  unfolding with-status
+  status-leaves j h e =
+      let half : List ℕ = splice values (status-of c) (little 1 code) in
+      spare c (status-of c + 1) 1 (response-spared c) half (little 1 code) (le-leb (status-of c + 1) (length half) (omega (arith, inside-values, half-length))) (length-little 1 code) j h e
+      ∙ spare c (status-of c) 1 (status-spared c) values (little 1 code) (le-leb (status-of c) (length values) (omega (arith, inside-values))) (length-little 1 code) j h e
+
+module _ (values : List ℕ) (long : length values ≡ 1024) where
+  latched-length : length (splice values latched-status (replicate 33 0)) ≡ 1024
+  latched-length = splice-length values latched-status (replicate 33 0) (rw long) ∙ long
+
+  cleared-length : length (exceptions-cleared values) ≡ 1024
+  unfolding exceptions-cleared with-summary
+  cleared-length = put-length _ summary-byte 1 _ (rw latched-length) ∙ latched-length
+
+  cleared-leaves : (j : ℕ) → j < row-count → named ExceptionReset (at-row j) ≡ false → entry-of (at-row j) (exceptions-cleared values) ≡ entry-of (at-row j) values
+  unfolding exceptions-cleared with-summary
+  cleared-leaves j h e =
+      spare ExceptionReset summary-byte 1 summary-spared _ (little 1 _) (rw latched-length) (length-little 1 _) j h e
+      ∙ spare ExceptionReset latched-status 33 latched-spared values (replicate 33 0) (rw long) refl j h e
+
+-- a command other than device reset leaves every entry that is not named for it; device reset is power-up
+module _ (m : Memory) (long : length (m .values) ≡ 1024) (j : ℕ) (there : j < row-count) where
+  not-marked : named LoadParameters (at-row j) ≡ false → at-row j .nv ≡ 1 → ⊥
+  unfolding named
+  not-marked d e = let z : true ≡ false = sym (or-true (eqb (at-row j .index) 0xFBF4)) ∙ (rw (eq-eqb (at-row j .nv) 1 e) at d) in let y : _≡_ {A = ℕ} 0 1 = cc in omega arith
+
+  done-leaves : (c : Command) (n : Memory) → named c (at-row j) ≡ false → done c m ≡ stored n → entry-of (at-row j) (n .values) ≡ entry-of (at-row j) (m .values)
+  unfolding done
+  done-leaves DeviceReset n d e = absurd (let z : _≡_ {A = ℕ} 0 1 = cc in omega arith)
+  done-leaves ExceptionReset n d e =
+      rw (← only-one _ n e)
+      (status-leaves ExceptionReset 0 (exceptions-cleared (m .values)) (cleared-length (m .values) long) j there d ∙ cleared-leaves (m .values) long j there d)
+  done-leaves StoreParameters n d e = rw (← only-one _ n e) (status-leaves StoreParameters _ (m .values) long j there d)
+  done-leaves LoadParameters n d e =
+      rw (← only-one _ n e)
+      (status-leaves LoadParameters _ (loaded (m .block) (m .values)) (length-loaded (m .block) (m .values) long) j there d
+      ∙ load-other (m .block) (m .values) long j there (not-marked d))
+
+  pub command-leaves : (c : Command) (bytes : List ℕ) (n : Memory) → named c (at-row j) ≡ false → obeyed c bytes m ≡ stored n → entry-of (at-row j) (n .values) ≡ entry-of (at-row j) (m .values)
+  unfolding obeyed
+  command-leaves c bytes n d e = go (same-bytes bytes (word-of c)) e
+    where
+      go : (b : Bool) → cond b (done c m) (stored (with-values m (with-status c 2 (m .values)))) ≡ stored n → entry-of (at-row j) (n .values) ≡ entry-of (at-row j) (m .values)
+      go true e = done-leaves c n d e
+      go false e = rw (← only-one _ n e) (status-leaves c 2 (m .values) long j there d)

@@ -1,0 +1,19 @@
+// Runs the proved card and block on vectors worked by hand, and prints "ok NAME" for each, or "DIFFERS NAME" where the function
+// gives something else. Beside each vector stands how its bytes come about, from document 01's two format paragraphs and the
+// places and NV entries of docs/object-table.md.
+mod blocks;
+mod cards;
+mod report;
+mod stores;
+
+fn main() {
+    cards::shown();
+    cards::judged();
+    cards::written();
+    blocks::headers();
+    blocks::rests();
+    blocks::limits();
+    stores::stored();
+    stores::refused();
+    stores::back();
+}
