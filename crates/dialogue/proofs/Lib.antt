@@ -1,0 +1,4 @@
+-- The laws of `dialogue`.
+pub mod TextLaws
+pub mod Hearing
+pub mod RoundTrip

@@ -1,0 +1,3 @@
+-- What the contracts of `dialogue` cite.
+pub mod Text
+pub mod Lines

@@ -1,0 +1,3 @@
+-- The laws of `talk`.
+pub mod TurnLaws
+pub mod Whole

@@ -1,0 +1,3 @@
+-- What the contracts of `talk` cite.
+pub mod Turns
+pub mod Run

@@ -1,0 +1,64 @@
+// Reads lines "line message" from standard input, as they come, and prints line and answer in capital hex, `-` for none and `?` for a
+// line that is no message. The board starts on a zero block, from power-up.
+mod serve;
+
+use dialogue::Pending;
+use dialogue::hear;
+use libc::STDIN_FILENO;
+ghost use Prim.Native.Nat.{_≤_};
+
+// The line that is coming, and whether the input is over.
+struct Heard {
+    pub pending: Pending,
+    pub over: bool,
+}
+
+// Reads once and serves the lines that end in what came.
+fn hear_some(pending: Pending, values: &mut [u8], block: &mut [u8], state: &mut [u8]) -> Heard
+    requires { ⌜ pending .count ≤ 20 ⌝ }
+    ensures { λ r. ⌜ r .pending .count ≤ 20 ⌝ }
+{
+    let mut buffer = io::buffer();
+    let got = libc::read(STDIN_FILENO, &mut buffer);
+    if got <= 0 {
+        return Heard {
+            pending,
+            over: true,
+        };
+    }
+    let count = io::count(got, &buffer);
+    let next = serve::serve_bytes(&buffer[..count], pending, values, block, state);
+    Heard {
+        pending: next,
+        over: false,
+    }
+}
+
+// A proved loop has to end, and nothing says that the input does. So it counts its reads down, from a number that no run uses up.
+fn hear_all(values: &mut [u8], block: &mut [u8], state: &mut [u8]) -> Pending
+    ensures { λ r. ⌜ r .count ≤ 20 ⌝ }
+{
+    let mut pending = hear::begun();
+    let mut reads = u64::MAX;
+    while 0 < reads {
+        let heard = hear_some(pending, values, block, state);
+        let next = heard.pending;
+        if heard.over {
+            return next;
+        }
+        pending = next;
+        reads -= 1;
+    }
+    pending
+}
+
+fn main() {
+    let mut values = [0u8; 1024];
+    let mut block = [0u8; 512];
+    let mut state = [0u8; 256];
+    board::gauge_power_up(&mut values, &mut block, &mut state);
+    let last = hear_all(&mut values, &mut block, &mut state);
+    if hear::is_left(last) {
+        serve::serve_line(last, &mut values, &mut block, &mut state);
+    }
+}
