@@ -106,6 +106,10 @@ def broken_rules(rows, end):
                 yield say("has limits out of order, or a default outside them")
             if max(row["low"], row["high"], row["def"]) >= 256 ** row["len"]:
                 yield say("has a limit or a default that its length does not hold")
+            if row["kind"] == "BOOL" and row["high"] > 1:
+                yield say("is a BOOL whose maximum is above 1")
+        elif row["low"] or row["high"] or row["def"]:
+            yield say("is no number, and has limits or a default")
     if end > VALUES:
         yield "the values end at byte %d" % end
     bits = 8 + sum((1 if r["kind"] == "BOOL" else 8 * r["len"]) for r in rows if r["nv"])

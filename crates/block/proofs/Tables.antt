@@ -1,4 +1,4 @@
--- The NV rows of ANY table that passes the table's test and whose BOOLs are 0 or 1. Assumes nothing.
+-- The NV rows of ANY table that passes the table's test. Assumes nothing.
 use mathlib.Core.Bool.{true}
 use mathlib.Core.List.{List, [], _∷_}
 use mathlib.Core.Logic.{⊎-elim}
@@ -11,7 +11,6 @@ use lib.ListN.{length, getD}
 use Rattle.block.proofs.Kept.{Kept, kept}
 use Rattle.block.proofs.RoundTrips.{Rising, Clear, rising-below}
 use Rattle.block.proofs.Walking.{Keeps, one-or-not, nv-cons, nv-other, nv-keeps, widths-sum}
-use Rattle.block.specs.Asked.{bool-ok}
 use Rattle.block.specs.Block.{nv-rows, widths}
 use Rattle.table.proofs.Rules.{row-ok→rule, block-fits}
 use Rattle.table.proofs.Walks.{both-left, both-right}
@@ -22,28 +21,28 @@ use Rattle.wire.specs.Splice.{apart}
 
 -- ---- the NV rows' places rise
 
-linked-rising : (x : Row) (ys : List Row) → T (linked next-ok x ys) → T (every row-ok ys) → T (every bool-ok ys) → Rising (x .place + held x) (nv-rows ys)
+linked-rising : (x : Row) (ys : List Row) → T (linked next-ok x ys) → T (every row-ok ys) → Rising (x .place + held x) (nv-rows ys)
 unfolding linked next-ok every nv-rows Rising
-linked-rising x [] t o b = tt
-linked-rising x (y ∷ ys) t o b =
+linked-rising x [] t o = tt
+linked-rising x (y ∷ ys) t o =
     let g : x .place + held x ≤ y .place = leb→le _ _ (both-right (ltb (key x) (key y)) _ (both-left (next-ok x y) (linked next-ok y ys) t)) in
     let rest : Rising (y .place + held y) (nv-rows ys) =
-    linked-rising y ys (both-right (next-ok x y) (linked next-ok y ys) t) (both-right (row-ok y) (every row-ok ys) o) (both-right (bool-ok y) (every bool-ok ys) b) in
+    linked-rising y ys (both-right (next-ok x y) (linked next-ok y ys) t) (both-right (row-ok y) (every row-ok ys) o) in
     ⊎-elim
     (λ e.
-    let k : Kept y = kept y (row-ok→rule y (both-left (row-ok y) (every row-ok ys) o)) e (both-left (bool-ok y) (every bool-ok ys) b) in
+    let k : Kept y = kept y (row-ok→rule y (both-left (row-ok y) (every row-ok ys) o)) e in
     rw (nv-cons y ys e) (g, rw (k .held-all) at rest))
     (λ d. rw (nv-other y ys d) (rising-below (nv-rows ys) (x .place + held x) (y .place + held y) (omega arith) rest))
     (one-or-not (y .nv))
 
-chain-rising : (rs : List Row) → T (chain next-ok rs) → T (every row-ok rs) → T (every bool-ok rs) → Rising 0 (nv-rows rs)
+chain-rising : (rs : List Row) → T (chain next-ok rs) → T (every row-ok rs) → Rising 0 (nv-rows rs)
 unfolding chain every nv-rows Rising
-chain-rising [] t o b = tt
-chain-rising (r ∷ rs) t o b =
-    let rest : Rising (r .place + held r) (nv-rows rs) = linked-rising r rs t (both-right (row-ok r) (every row-ok rs) o) (both-right (bool-ok r) (every bool-ok rs) b) in
+chain-rising [] t o = tt
+chain-rising (r ∷ rs) t o =
+    let rest : Rising (r .place + held r) (nv-rows rs) = linked-rising r rs t (both-right (row-ok r) (every row-ok rs) o) in
     ⊎-elim
     (λ e.
-    let k : Kept r = kept r (row-ok→rule r (both-left (row-ok r) (every row-ok rs) o)) e (both-left (bool-ok r) (every bool-ok rs) b) in
+    let k : Kept r = kept r (row-ok→rule r (both-left (row-ok r) (every row-ok rs) o)) e in
     rw (nv-cons r rs e) (zero-le, rw (k .held-all) at rest))
     (λ d. rw (nv-other r rs d) (rising-below (nv-rows rs) 0 (r .place + held r) zero-le rest))
     (one-or-not (r .nv))
@@ -75,17 +74,17 @@ nv-clear (r ∷ rs) q m f =
 
 -- ---- a table that passes
 
-module _ (rs : List Row) (pass : T (table-ok rs)) (bools : T (every bool-ok rs)) where
+module _ (rs : List Row) (pass : T (table-ok rs)) where
   rows-ok : T (every row-ok rs)
   unfolding table-ok
   rows-ok = both-left (every row-ok rs) _ pass
 
   pub table-keeps : Keeps (nv-rows rs)
-  table-keeps = nv-keeps rs rows-ok bools
+  table-keeps = nv-keeps rs rows-ok
 
   pub table-rises : Rising 0 (nv-rows rs)
   unfolding table-ok
-  table-rises = chain-rising rs (both-left (chain next-ok rs) _ (both-right (every row-ok rs) _ pass)) rows-ok bools
+  table-rises = chain-rising rs (both-left (chain next-ok rs) _ (both-right (every row-ok rs) _ pass)) rows-ok
 
   pub table-used : 8 + widths (nv-rows rs) ≤ 4096
   table-used = omega (arith, block-fits rs pass, widths-sum rs)

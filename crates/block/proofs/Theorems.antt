@@ -15,7 +15,7 @@ use Rattle.bits.specs.Bits.{msb, bits, packed, Small, Bytes}
 use Rattle.block.proofs.Entries.{small-entry}
 use Rattle.block.proofs.RoundTrips.{Clear, Rising, copy-rows, copied-entry, copy-own, load-beside, length-load, load-stored, stored-good, store-loaded, loaded-good}
 use Rattle.block.proofs.Tables.{Among, nv-among, nv-clear, table-rises}
-use Rattle.block.proofs.Turns.{bools-ok, nv-keep, used, kept-at}
+use Rattle.block.proofs.Turns.{nv-keep, used, kept-at}
 use Rattle.block.proofs.Walking.{length-saved}
 use Rattle.block.specs.Block.{LAYOUT, BAG552, part, entry-bits, widths, saved, load-rows, values-good, block-of, good}
 use Rattle.block.specs.Saved.{nv, storable, stored, loadable, loaded}
@@ -27,7 +27,7 @@ use Rattle.table.specs.Rule.{held}
 use Rattle.wire.specs.Splice.{apart}
 
 nv-rise : Rising 0 nv
-nv-rise = table-rises rows rows-pass bools-ok
+nv-rise = table-rises rows rows-pass
 
 -- ---- the block of any values
 

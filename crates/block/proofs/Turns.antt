@@ -4,19 +4,18 @@ use mathlib.Core.List.{List}
 use mathlib.Core.Path.{_≡_, refl, sym, _∙_}
 use Prim.Native.Nat.{ℕ, _+_, _^_, _≤_, _<_}
 use native.Mathlib.Omega.{arith}
-use lib.Dec.{T}
 use lib.ListN.{length, take, drop, getD}
 use Rattle.bits.specs.Bits.{field, Bytes}
 use Rattle.block.proofs.Kept.{Kept, kept}
 use Rattle.block.proofs.Tables.{table-keeps, table-used}
 use Rattle.block.proofs.Walking.{and-true, fits, Keeps, nv-keeps, every-drop, nv-skip, widths-here, load-here, values-here, rows-here, saved-here}
-use Rattle.block.specs.Asked.{Marked, Lent, Sized, bool-ok}
+use Rattle.block.specs.Asked.{Marked, Lent, Sized}
 use Rattle.block.specs.Block.{width, entry-bits, entry-bytes, within, nv-rows, widths, saved, load-rows, values-good, rows-good}
 use Rattle.block.specs.Saved.{nv}
 use Rattle.table.proofs.ColumnLaws.{field-at, column-long}
 use Rattle.table.proofs.Table.{rows-pass, rows-length, row-rule}
-use Rattle.table.proofs.Walks.{both-left, every-at}
-use Rattle.table.specs.Row.{Row, no-row, REAL}
+use Rattle.table.proofs.Walks.{both-left}
+use Rattle.table.specs.Row.{Row, REAL}
 use Rattle.table.specs.Rows.{rows, row-count, at-row}
 use Rattle.table.specs.Rule.{row-ok, table-ok}
 use Rattle.table.specs.Walk.{every}
@@ -25,22 +24,18 @@ use Rattle.wire.specs.Splice.{splice}
 
 -- ---- the table's NV rows keep the rule
 
-pub bools-ok : T (every bool-ok rows)
-unfolding rows every bool-ok
-bools-ok = tt
-
 pub keeps-from : (i : ℕ) → Keeps (nv-rows (drop i rows))
 unfolding table-ok
-keeps-from i = nv-keeps (drop i rows) (every-drop row-ok rows i (both-left (every row-ok rows) _ rows-pass)) (every-drop bool-ok rows i bools-ok)
+keeps-from i = nv-keeps (drop i rows) (every-drop row-ok rows i (both-left (every row-ok rows) _ rows-pass))
 
 pub nv-keep : Keeps nv
-nv-keep = table-keeps rows rows-pass bools-ok
+nv-keep = table-keeps rows rows-pass
 
 pub used : 8 + widths nv ≤ 4096
-used = table-used rows rows-pass bools-ok
+used = table-used rows rows-pass
 
 pub kept-at : (i : ℕ) → i < row-count → at-row i .nv ≡ 1 → Kept (at-row i)
-kept-at i h m = kept (at-row i) (row-rule i h) m (every-at bool-ok rows no-row bools-ok i (omega (arith, rows-length)))
+kept-at i h m = kept (at-row i) (row-rule i h) m
 
 -- ---- an NV row that the loop has reached
 

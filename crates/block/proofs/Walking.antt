@@ -13,7 +13,6 @@ use borrow.Author.Tests.{eq-eqb, ne-eqb, eqb-true, eqb-false}
 use Rattle.bits.specs.Bits.{field, Bytes}
 use Rattle.block.proofs.Entries.{width-bool, width-bytes, length-entry, within-bool}
 use Rattle.block.proofs.Kept.{Kept, kept}
-use Rattle.block.specs.Asked.{bool-ok}
 use Rattle.block.specs.Block.{width, row-width, part, entry-bits, entry-bytes, within, nv-rows, widths, saved, load-rows, values-good, rows-good}
 use Rattle.table.proofs.Rules.{row-ok→rule}
 use Rattle.table.proofs.Walks.{both-left, both-right, lt-or-ge}
@@ -64,14 +63,14 @@ pub keeps-rest : (r : Row) (rs : List Row) → Keeps (r ∷ rs) → Keeps rs
 unfolding Keeps
 keeps-rest r rs k = k .1
 
-pub nv-keeps : (rs : List Row) → T (every row-ok rs) → T (every bool-ok rs) → Keeps (nv-rows rs)
+pub nv-keeps : (rs : List Row) → T (every row-ok rs) → Keeps (nv-rows rs)
 unfolding every nv-rows Keeps
-nv-keeps [] t b = tt
-nv-keeps (r ∷ rs) t b =
+nv-keeps [] t = tt
+nv-keeps (r ∷ rs) t =
     let here : T (row-ok r) = both-left (row-ok r) (every row-ok rs) t in
-    let rest : Keeps (nv-rows rs) = nv-keeps rs (both-right (row-ok r) (every row-ok rs) t) (both-right (bool-ok r) (every bool-ok rs) b) in
+    let rest : Keeps (nv-rows rs) = nv-keeps rs (both-right (row-ok r) (every row-ok rs) t) in
     ⊎-elim
-    (λ e. rw (nv-cons r rs e) (kept r (row-ok→rule r here) e (both-left (bool-ok r) (every bool-ok rs) b), rest))
+    (λ e. rw (nv-cons r rs e) (kept r (row-ok→rule r here) e, rest))
     (λ d. rw (nv-other r rs d) rest)
     (one-or-not (r .nv))
 

@@ -1,11 +1,9 @@
 -- What the parts of the code ask, of the columns lent, of the table and of an entry.
-use mathlib.Core.Bool.{Bool, true, cond}
 use mathlib.Core.List.{List}
 use mathlib.Core.Path.{_≡_}
 use Prim.Native.Nat.{ℕ, _+_, _≤_}
-use lib.Dec.{leb, eqb}
 use Rattle.table.specs.Columns.{column}
-use Rattle.table.specs.Row.{Row, BOOL, REAL}
+use Rattle.table.specs.Row.{Row, REAL}
 
 -- columns of the table
 pub record Marked (marks kinds lens : List ℕ) : Type 0 where
@@ -16,10 +14,6 @@ pub record Marked (marks kinds lens : List ℕ) : Type 0 where
 pub record Lent (marks kinds lens places : List ℕ) : Type 0 where
   pub marked : Marked marks kinds lens
   pub places-are : places ≡ column (λ (r : Row). r .place)
-
--- of each row: "BOOL takes one byte, 0 or 1"
-unfoldable pub bool-ok : Row → Bool
-bool-ok r = cond (eqb (r .kind) BOOL) (leb (r .high) 1) true
 
 -- an entry whose bytes lie in the values
 pub record Sized (kind len place : ℕ) : Type 0 where

@@ -1,19 +1,16 @@
 -- THE ENTRIES OF A TABLE: what storing one row, and all defaults, do to every row's bytes; for any table that passes the rule, and for the object table.
 use mathlib.Core.Path.{_≡_, _∙_}
-use mathlib.Core.Bool.{Bool, true}
 use mathlib.Core.List.{List}
 use Prim.Native.Nat.{ℕ, _+_, _<_, _≤_}
 use native.Mathlib.Omega.{arith}
-use lib.Dec.{T, leb, eqb, leb→le, eqb→eq}
-use borrow.Author.Tests.{eq-eqb, le-leb}
+use lib.Dec.{T}
 use lib.ListN.{length, getD, replicate, length-replicate}
 use Rattle.table.specs.Row.{Row, no-row, BOOL, STRING}
 use Rattle.table.specs.Rows.{rows, row-count, at-row}
-use Rattle.table.specs.Walk.{both, every}
-use Rattle.table.specs.Rule.{pick, held, table-ok}
-use Rattle.table.proofs.Walks.{both-left, both-right, every-at}
+use Rattle.table.specs.Walk.{every}
+use Rattle.table.specs.Rule.{held, table-ok}
 use Rattle.table.proofs.Rules.{rule-at, before-at, apart-at}
-use Rattle.table.proofs.Table.{rows-pass, rows-length}
+use Rattle.table.proofs.Table.{rows-pass, rows-length, row-rule}
 use Rattle.entry.specs.Entry.{entry-of, stored, default-of, defaults, number-verdict}
 use Rattle.entry.specs.declared.limits.Verdict.the-variants.{Within}
 use Rattle.entry.proofs.EntryLaws.{zero-at, default-zero, Beside-all, Inside, Rising, length-stored, stored-read, stored-other, length-defaults, defaults-read, defaults-byte}
@@ -55,36 +52,10 @@ module _ (xs : List Row) (pass : T (table-ok xs)) where
   pub all-zero : (i : ℕ) → Beside-all xs i 1 → getD (defaults xs (replicate 1024 0)) i 0 ≡ 0
   all-zero i b = all-byte (replicate 1024 0) (length-replicate {A = ℕ} 1024 0) i b ∙ zero-at 1024 i
 
--- What rows have besides the rule: a BOOL's maximum is 1 ("BOOL takes one byte, 0 or 1"), and what is no number has the default 0.
-bool-ok : Row → Bool
-bool-ok r = pick (eqb (r .kind) BOOL) (leb (r .high) 1) true
-
-string-ok : Row → Bool
-string-ok r = pick (leb STRING (r .kind)) (eqb (r .def) 0) true
-
-plain-ok : Row → Bool
-plain-ok r = both (bool-ok r) (string-ok r)
-
-bool-high : (r : Row) → T (bool-ok r) → r .kind ≡ BOOL → r .high ≤ 1
-unfolding bool-ok pick
-bool-high r t b = leb→le (r .high) 1 (rw (eq-eqb (r .kind) BOOL b) at t)
-
-string-zero : (r : Row) → T (string-ok r) → STRING ≤ r .kind → r .def ≡ 0
-unfolding string-ok pick
-string-zero r t s = eqb→eq (r .def) 0 (rw (le-leb STRING (r .kind) s) at t)
-
 -- ---- the object table
 
 inside-rows : {k : ℕ} → k < row-count → k < length rows
 inside-rows h = omega (arith, rows-length)
-
-rows-plain : T (every plain-ok rows)
-unfolding rows every plain-ok bool-ok string-ok pick
-rows-plain = tt
-
-plain-at : (k : ℕ) → k < row-count → T (both (bool-ok (at-row k)) (string-ok (at-row k)))
-unfolding plain-ok
-plain-at k h = every-at plain-ok rows no-row rows-plain k (inside-rows h)
 
 module _ (k : ℕ) (there : k < row-count) (values bytes : List ℕ) (long : length values ≡ 1024) (fit : length bytes ≡ held (at-row k)) where
   pub row-store-length : length (stored (at-row k) values bytes) ≡ 1024
@@ -105,8 +76,8 @@ module _ (values : List ℕ) (long : length values ≡ 1024) where
 
   -- a string reads as zeros
   pub string-read : (k : ℕ) → k < row-count → STRING ≤ at-row k .kind → entry-of (at-row k) (defaults rows values) ≡ replicate (held (at-row k)) 0
-  string-read k h s = default-read k h ∙ default-zero (at-row k) (string-zero (at-row k) (both-right (bool-ok (at-row k)) _ (plain-at k h)) s)
+  string-read k h s = default-read k h ∙ default-zero (at-row k) (row-rule k h .no-def s)
 
 -- a BOOL that is within its limits is 0 or 1
 pub bool-row : (k : ℕ) → k < row-count → at-row k .kind ≡ BOOL → (v : ℕ) → number-verdict (at-row k) v ≡ Within → v ≤ 1
-bool-row k h b v w = bool-within (at-row k) v b (bool-high (at-row k) (both-left (bool-ok (at-row k)) _ (plain-at k h)) b) w
+bool-row k h b v w = bool-within (at-row k) v b (row-rule k h .bool-high b) w

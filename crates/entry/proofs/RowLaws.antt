@@ -1,18 +1,19 @@
 -- What a row's rule gives its entry: how wide it is, how it is judged, and that its default is within its limits. They hold for any row that keeps the rule.
 use mathlib.Core.Path.{_≡_, sym, ap, _∙_}
-use mathlib.Core.List.{List, [], _∷_}
+use mathlib.Core.List.{List}
 use mathlib.Core.Logic.{⊎-elim}
-use Prim.Native.Nat.{ℕ, zero, suc, _+_, _*_, _-_, _%_, _^_, _<_, _≤_}
+use Prim.Native.Nat.{ℕ, _+_, _*_, _-_, _%_, _^_, _<_, _≤_}
 use native.Mathlib.Omega.{arith}
-use lib.ListN.{length, take, drop, getD}
+use lib.ListN.{length, take, drop}
 use lib.Seq.{take-all}
 use borrow.Author.Tests.{le-leb, lt-leb, lt-ltb, le-ltb, eq-eqb}
 use Rattle.wire.specs.Little.{little, number, fromLittle}
 use Rattle.wire.proofs.LittleLaws.{Bytes, number-lt, from-little}
 use Rattle.table.specs.Row.{Row, BOOL, REAL, CARD}
-use Rattle.table.specs.Rule.{pick, held, width-of, rank, real-rank}
+use Rattle.table.specs.Rule.{pick, held, rank, real-rank}
 use Rattle.table.proofs.Walks.{lt-or-ge}
 use Rattle.table.proofs.Rules.{RowRule}
+use Rattle.table.proofs.Widths.{real-width}
 use Rattle.entry.specs.Limits.{Patterns, kind-verdict}
 use Rattle.entry.specs.Entry.{held-by, entry-of, default-of, number-verdict, row-verdict}
 use Rattle.entry.specs.declared.limits.Verdict.the-variants.{Within}
@@ -36,24 +37,6 @@ held-none r h = simp (le-leb CARD (r .kind) h)
 pub held-most : (r : Row) → RowRule r → held r ≤ 64
 held-most r u =
     ⊎-elim (λ h. let m = u .most in omega (arith, held-is r h)) (λ g. omega (arith, held-none r g)) (lt-or-ge (r .kind) CARD)
-
--- numbers have at most eight bytes, a REAL has four
-narrow : (n k : ℕ) → k ≤ 5 → getD (1 ∷ 1 ∷ 2 ∷ 4 ∷ 8 ∷ 4 ∷ n ∷ 33 ∷ []) k n ≤ 8
-narrow n zero h = omega arith
-narrow n (suc zero) h = omega arith
-narrow n (suc (suc zero)) h = omega arith
-narrow n (suc (suc (suc zero))) h = omega arith
-narrow n (suc (suc (suc (suc zero)))) h = omega arith
-narrow n (suc (suc (suc (suc (suc zero))))) h = omega arith
-narrow n (suc (suc (suc (suc (suc (suc k)))))) h = absurd (omega arith)
-
-pub number-narrow : (r : Row) → RowRule r → r .kind ≤ REAL → r .len ≤ 8
-unfolding width-of
-number-narrow r u h = let w = u .width in let n = narrow (r .len) (r .kind) h in omega arith
-
-pub real-width : (r : Row) → RowRule r → r .kind ≡ REAL → r .len ≡ 4
-unfolding width-of
-real-width r u e = u .width ∙ ap (λ (k : ℕ). getD (1 ∷ 1 ∷ 2 ∷ 4 ∷ 8 ∷ 4 ∷ r .len ∷ 33 ∷ []) k (r .len)) e
 
 -- ---- judging
 

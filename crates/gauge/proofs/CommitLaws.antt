@@ -1,21 +1,20 @@
 -- A whole read and a whole write by cases, as the code takes them: each law takes what the calls ensure. Assumes nothing.
-use mathlib.Core.Path.{_≡_, refl, sym, ap, _∙_}
-use mathlib.Core.Bool.{Bool, true, false, cond}
-use mathlib.Core.List.{List, [], _∷_}
+use mathlib.Core.Path.{_≡_, sym, _∙_}
+use mathlib.Core.Bool.{Bool, true, false}
+use mathlib.Core.List.{List}
 use Prim.Native.Nat.{ℕ, _≤_, _<_}
 use native.Mathlib.Omega.{arith}
-use lib.Dec.{eqb}
-use lib.ListN.{length, replicate}
+use lib.ListN.{replicate}
 use borrow.Author.Tests.{eq-eqb, ne-eqb}
 use Rattle.wire.specs.Splice.{splice}
-use Rattle.order.specs.Talk.{Outcome, stored, restarted, declined}
+use Rattle.order.specs.Talk.{Outcome, stored}
 use Rattle.table.specs.Row.{Row, CARD, COMMAND}
-use Rattle.table.specs.Rows.{rows, row-count, at-row}
-use Rattle.table.specs.Rule.{held, width-of}
-use Rattle.table.proofs.Rules.{RowRule}
+use Rattle.table.specs.Rows.{row-count, at-row}
+use Rattle.table.specs.Rule.{held}
+use Rattle.table.proofs.Widths.{card-width}
 use Rattle.table.proofs.Table.{row-rule}
 use Rattle.entry.specs.Limits.{verdict-code}
-use Rattle.entry.specs.Entry.{copied, defaults, row-verdict}
+use Rattle.entry.specs.Entry.{copied, row-verdict}
 use Rattle.entry.specs.Entry as entry
 use Rattle.entry.specs.declared.limits.Verdict.{Verdict}
 use Rattle.entry.specs.declared.limits.Verdict.the-variants.{Within, NotANumber, Above, Below}
@@ -23,15 +22,14 @@ use Rattle.entry.proofs.RowLaws.{held-is}
 use Rattle.card.specs.Card.{card-of, card-verdict, with-card}
 use Rattle.block.specs.Saved.{storable, loadable, loaded}
 use Rattle.block.specs.Saved as saved
-use Rattle.gauge.specs.Memory.{Memory, memory-of, with-values}
+use Rattle.gauge.specs.Memory.{Memory, memory-of}
 use Rattle.gauge.specs.Words.{command-at, word-of, read-word, with-status, same-bytes}
 use Rattle.gauge.specs.Lock.{locked}
 use Rattle.gauge.specs.Exceptions.{exceptions-cleared}
 use Rattle.gauge.specs.PowerUp.{fresh-values, powered-up}
 use Rattle.gauge.specs.Commands.{status-by, done, obeyed}
 use Rattle.gauge.specs.Endings.{Left, left, left-by}
-use Rattle.gauge.specs.Whole.{by-type, value-of, check, first-code, verdict-of, is-code, last-checks, effect, accepted, commit-row}
-use Rattle.gauge.specs.declared.commit.Ending.{Ending}
+use Rattle.gauge.specs.Whole.{by-type, value-of, first-code, verdict-of, last-checks, effect, accepted, commit-row}
 use Rattle.gauge.specs.declared.commit.Ending.the-variants.{Accepted, Restarted, Refused}
 use Rattle.gauge.specs.declared.word.Command.{Command}
 use Rattle.gauge.specs.declared.word.Command.the-variants.{DeviceReset, ExceptionReset, StoreParameters, LoadParameters}
@@ -52,8 +50,7 @@ module _ {A : Type 0} (r : Row) (k : ℕ) (kind : k ≡ r .kind) (card command o
   of-other n m = rw (ne-eqb (r .kind) CARD (λ e. n (kind ∙ e)), ne-eqb (r .kind) COMMAND (λ e. m (kind ∙ e)))
 
 pub card-length : (k : ℕ) → k < row-count → at-row k .kind ≡ CARD → at-row k .len ≡ 33
-unfolding width-of
-card-length k h e = rw e at (row-rule k h .width)
+card-length k h e = card-width (at-row k) (row-rule k h) e
 
 pub other-held : (k : ℕ) → k < row-count → (at-row k .kind ≡ CARD → ⊥) → (at-row k .kind ≡ COMMAND → ⊥) → held (at-row k) ≡ at-row k .len
 other-held k h n m = held-is (at-row k) (below (at-row k .kind) (row-rule k h .kind-known) n m)

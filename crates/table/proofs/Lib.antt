@@ -1,5 +1,6 @@
 pub mod Walks
 pub mod Rules
+pub mod Widths
 pub mod SearchSteps
 pub mod Searched
 pub mod Pairs

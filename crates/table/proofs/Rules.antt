@@ -8,7 +8,7 @@ use native.Mathlib.Omega.{arith}
 use lib.Dec.{T, leb, ltb, eqb, leb→le, ltb→lt, eqb→eq}
 use lib.ListN.{length, getD}
 use borrow.Author.Tests.{eq-eqb, le-leb}
-use Rattle.table.specs.Row.{Row, no-row, BOOL, ULINT, REAL, CARD}
+use Rattle.table.specs.Row.{Row, no-row, BOOL, ULINT, REAL, STRING, CARD}
 use Rattle.table.specs.Walk.{both, all, every, chain}
 use Rattle.table.specs.Rule.{pick, key, held, block-bits, block-sum, is-number, rank, finite, width-of, row-tests, row-ok, next-ok, table-ok}
 use Rattle.table.proofs.Walks.{nth, both-left, both-right, every-at, chain-far, lt-or-ge}
@@ -35,6 +35,10 @@ pub record RowRule (r : Row) : Type 0 where
   pub low-fits : r .kind ≤ REAL → r .low < 2 ^ (8 * r .len)
   pub high-fits : r .kind ≤ REAL → r .high < 2 ^ (8 * r .len)
   pub def-fits : r .kind ≤ REAL → r .def < 2 ^ (8 * r .len)
+  pub bool-high : r .kind ≡ BOOL → r .high ≤ 1
+  pub no-low : STRING ≤ r .kind → r .low ≡ 0
+  pub no-high : STRING ≤ r .kind → r .high ≡ 0
+  pub no-def : STRING ≤ r .kind → r .def ≡ 0
 
 -- a test that is made only where another passes
 made : (a b : Bool) → T (pick a b true) → a ≡ true → T b
@@ -70,6 +74,10 @@ row-ok→rule r t =
       low-fits = λ n. ltb→lt _ _ (made (leb (r .kind) REAL) _ (test 15) (le-leb _ _ n));
       high-fits = λ n. ltb→lt _ _ (made (leb (r .kind) REAL) _ (test 16) (le-leb _ _ n));
       def-fits = λ n. ltb→lt _ _ (made (leb (r .kind) REAL) _ (test 17) (le-leb _ _ n));
+      bool-high = λ e. leb→le _ _ (made (eqb (r .kind) BOOL) _ (test 18) (eq-eqb _ _ e));
+      no-low = λ s. eqb→eq _ _ (made (leb STRING (r .kind)) _ (test 19) (le-leb _ _ s));
+      no-high = λ s. eqb→eq _ _ (made (leb STRING (r .kind)) _ (test 20) (le-leb _ _ s));
+      no-def = λ s. eqb→eq _ _ (made (leb STRING (r .kind)) _ (test 21) (le-leb _ _ s));
     }
 
 -- the keys rise, and an earlier row's place ends where a later one's begins, or before

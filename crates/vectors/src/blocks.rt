@@ -57,17 +57,25 @@ fn header(name: &[u8], byte: u8) {
 }
 
 // Byte 0 is 0001 0001, and one bit is other.
-pub fn headers() {
-    good(b"block: the defaults", &default_block());
-    faulty(b"block: all zero", &[0u8; 512]);
+fn layouts() {
     header(b"block: layout 9", 0x91);
     header(b"block: layout 5", 0x51);
     header(b"block: layout 3", 0x31);
     header(b"block: layout 0", 0x01);
+}
+
+fn models() {
     header(b"block: model 9", 0x19);
     header(b"block: model 5", 0x15);
     header(b"block: model 3", 0x13);
     header(b"block: model 0", 0x10);
+}
+
+pub fn headers() {
+    good(b"block: the defaults", &default_block());
+    faulty(b"block: all zero", &[0u8; 512]);
+    layouts();
+    models();
 }
 
 // ---- the rest
@@ -90,14 +98,16 @@ pub fn rests() {
 // ---- limits
 
 // 8005:11 is 1 or 2. Bits 272 and 273, the first of byte 34, are its last two.
-fn filament(name: &[u8], byte: u8, right: bool) {
+fn filament(byte: u8) -> [u8; 512] {
     let mut block = default_block();
     block[34] = byte;
-    if right {
-        good(name, &block);
-    } else {
-        faulty(name, &block);
-    }
+    block
+}
+
+fn filaments() {
+    faulty(b"limit: 8005:11 is 0", &filament(0x00));
+    good(b"limit: 8005:11 is 2", &filament(0x80));
+    faulty(b"limit: 8005:11 is 3", &filament(0xC0));
 }
 
 // F840:01 is 00220000 to FD4E0000, from two bits before the end of byte 142 on.
@@ -132,6 +142,12 @@ fn unit_code(byte: u8) -> [u8; 512] {
     let mut block = default_block();
     block[147] = byte;
     block
+}
+
+fn unit_codes() {
+    faulty(b"limit: F840:03 is 0", &unit_code(0x00));
+    good(b"limit: F840:03 is 5", &unit_code(0x14));
+    faulty(b"limit: F840:03 is 6", &unit_code(0x18));
 }
 
 // 800E:11 is 0 to 1500, from the middle of byte 38 to the middle of byte 42, where 800E:12 begins with 8.
@@ -208,13 +224,9 @@ fn bools() {
 }
 
 pub fn limits() {
-    filament(b"limit: 8005:11 is 0", 0x00, false);
-    filament(b"limit: 8005:11 is 2", 0x80, true);
-    filament(b"limit: 8005:11 is 3", 0xC0, false);
+    filaments();
     units();
-    faulty(b"limit: F840:03 is 0", &unit_code(0x00));
-    good(b"limit: F840:03 is 5", &unit_code(0x14));
-    faulty(b"limit: F840:03 is 6", &unit_code(0x18));
+    unit_codes();
     levels();
     currents();
     sources();

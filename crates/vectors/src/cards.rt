@@ -209,12 +209,16 @@ fn straddling() {
     shows(b"card: a number across five bytes", &values, &card);
 }
 
-pub fn shown() {
-    example_k();
-    shows(b"card: all zero", &[0u8; 1024], &card_zero());
+fn all_sides() {
     let mut values = [0u8; 1024];
     put_full(&mut values);
     shows(b"card: both points, all sides", &values, &card_full());
+}
+
+pub fn shown() {
+    example_k();
+    shows(b"card: all zero", &[0u8; 1024], &card_zero());
+    all_sides();
     minus_zero();
     not_numbers();
     enables();
@@ -252,18 +256,24 @@ fn layout_two() -> [u8; 33] {
     card
 }
 
-// 1500 is 44BB8000; 80000001 is the first below minus zero; 7F800000 and FF800000 are the infinities.
-pub fn judged() {
+fn whole_cards() {
     judges(b"judged: example K", &card_k(), 0);
     judges(b"judged: all sides", &card_full(), 0);
     judges(b"judged: minus zero", &card_minus_zero(), 0);
+    judges(b"judged: not a number", &card_lent(), 0x06090030);
+}
+
+fn layouts() {
     judges(b"judged: layout 0", &[0u8; 33], 0x06090030);
     judges(
         b"judged: layout 2 before a level above",
         &layout_two(),
         0x06090030,
     );
-    judges(b"judged: not a number", &card_lent(), 0x06090030);
+}
+
+// 1500 is 44BB8000; 80000001 is the first below minus zero.
+fn levels() {
     judges(b"judged: 1500", &card_with(0x44BB8000, 0x44BB8000), 0);
     judges(
         b"judged: level above",
@@ -275,6 +285,10 @@ pub fn judged() {
         &card_with(0x80000001, 0),
         0x06090032,
     );
+}
+
+// 7F800000 and FF800000 are the infinities.
+fn first_fields() {
     judges(
         b"judged: above before not a number",
         &card_with(0x7F800000, 0x7FC00000),
@@ -285,6 +299,13 @@ pub fn judged() {
         &card_with(0xFF800000, 0x7F800000),
         0x06090032,
     );
+}
+
+pub fn judged() {
+    whole_cards();
+    layouts();
+    levels();
+    first_fields();
 }
 
 // ---- writing

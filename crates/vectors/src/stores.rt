@@ -82,19 +82,32 @@ fn lent(at: usize, byte: u8) -> [u8; 1024] {
     values
 }
 
-// At 251 stands 8005:01, at 253 8005:11, at 254 8005:13 (its third and fourth byte C0 7F: not a number), at 260 800E:11 (its fourth
-// byte 45: 2048), at 264 800E:12, at 460 F840:01 (its third byte 21: 00210000), at 464 F840:03.
-pub fn refused() {
+// At 251 stands 8005:01, at 253 8005:11, at 260 800E:11 (its fourth byte 45: 2048), at 264 800E:12.
+fn refused_first() {
     refuses(b"store: all zero, so 8005:11 is 0", &[0u8; 1024]);
     refuses(b"store: BOOL 2 lent", &lent(251, 0x02));
     refuses(b"store: USINT above", &lent(253, 0x03));
     refuses(b"store: REAL above", &lent(263, 0x45));
+}
+
+// At 460 stands F840:01 (its third byte 21: 00210000), at 464 F840:03.
+fn refused_last() {
     refuses(b"store: source index other", &lent(264, 0x01));
     refuses(b"store: UDINT below", &lent(462, 0x21));
     refuses(b"store: last NV number with limits", &lent(464, 0x06));
+}
+
+// At 254 stands 8005:13: its third and fourth byte C0 7F.
+fn refused_real() {
     let mut values = lent(256, 0xC0);
     values[257] = 0x7F;
     refuses(b"store: REAL not a number", &values);
+}
+
+pub fn refused() {
+    refused_first();
+    refused_last();
+    refused_real();
 }
 
 // The defaults loaded into zeros: 8005:11, the source indices, the unit and its code, little-endian, and no other byte.

@@ -1,6 +1,7 @@
 -- `judge_part` is `number-verdict` of the bytes that lie there: a number is read and judged, anything else is within.
-use Rattle.entry.proofs.RowLaws.{number-narrow, real-short, no-number}
+use Rattle.entry.proofs.RowLaws.{real-short, no-number}
 use Rattle.table.proofs.Table.{row-rule}
+use Rattle.table.proofs.Widths.{number-narrow}
 use Rattle.table.specs.Row.{REAL}
 use denote.Ref.{now}
 use Prim.Native.Nat.{_≤_}
