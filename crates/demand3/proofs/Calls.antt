@@ -364,7 +364,7 @@ module _ (v b s : List ℕ) where
     unfolding power-on power-up-call
     powered-is = rw (accepted zero-given)
 
-    powered-lent : Lent (power-on v b s)
+    pub powered-lent : Lent (power-on v b s)
     powered-lent = rw powered-is (record { memory-sized = record { values-are = fresh-long b; block-is = long .0 }; state-is = dropped-long s (long .1) })
 
     powered-board : board-in (power-on v b s) ≡ recordStart bag552 (powered-store b)

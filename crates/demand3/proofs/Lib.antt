@@ -7,3 +7,4 @@ pub mod Lengths
 pub mod Bag552
 pub mod StateBytes
 pub mod Calls
+pub mod Parts

@@ -1,22 +1,25 @@
 -- THE C FIRMWARE'S RUN, from power-up: a list of calls on three lent arrays, each exactly what the exported call is held to (crate board,
 -- specs/Calls.antt). THE OBSERVER is given the calls and what they give back, and never the arrays. DEMAND 3 over both. Assumes nothing.
-use Prim.Native.Nat.{ℕ, zero, suc}
+use Prim.Native.Nat.{ℕ, zero, suc, _+_, _/_, _<_}
 use mathlib.Core.Path.{_≡_}
-use mathlib.Core.Bool.{Bool, cond}
+use mathlib.Core.Bool.{false, cond}
 use mathlib.Core.List.{List, [], _∷_, map}
 use mathlib.Core.Option.{Option, none, some, Option·map}
 use lib.Dec.{eqb}
 use lib.Ieee.{Float}
-use lib.ListN.{take}
-use Rattle.order.specs.Talk.{idle}
+use lib.ListN.{length, take}
+use Rattle.order.specs.Talk.{idle, openRead, value}
 use Rattle.order.specs.Gauge.{Gauge, results, endOf}
 use Rattle.order.specs.Observe.{Done, follow}
-use Rattle.order.specs.Promise.{opsOf, gotOf}
-use Rattle.order.specs.Bytes.{heard, fed, reads, client}
+use Rattle.order.specs.Promise.{opsOf, gotOf, Right}
+use Rattle.order.specs.Bytes.{heard, fed, meant, reads, client}
 use Rattle.gauge.specs.Memory.{Store, memory-of, all-off}
 use Rattle.gauge.specs.PowerUp.{fresh-values}
-use Rattle.sdo.specs.Lines.{gauge, eight, Line, tool, service, twoLines, eightCodec, BoardCall}
-use Rattle.sdo.specs.Records.{RecordBoard}
+use Rattle.gauge.specs.Whole.{read-whole}
+use Rattle.sdo.specs.declared.Key.{Key}
+use Rattle.sdo.specs.Eight.{askOf}
+use Rattle.sdo.specs.Lines.{gauge, eight, Line, tool, service, twoLines, eightCodec, BoardCall, partsAsked}
+use Rattle.sdo.specs.Records.{RecordBoard, NoReset}
 use Rattle.board.specs.State.{record-at}
 use Rattle.board.specs.Gauge.{Sample, bag552}
 use Rattle.board.specs.Calls.{Called, Fed, Shown, Powered, store-of, message-call, power-up-call, sample-call, image-call}
@@ -138,6 +141,35 @@ module _ (values block state : List ℕ) (cs : List Exported) where
     pub same-results : results (gauge bag552) (powered-store block) (opsOf (gauge bag552) run-of) ≡ gotOf (gauge bag552) run-of
     pub same-end : endOf (gauge bag552) (powered-store block) (opsOf (gauge bag552) run-of) ≡ store-in (final (power-on values block state) cs)
 
+-- ---- THE COUNT OF PARTS, of the same calls
+
+-- the arrays after a message
+abbrev pub arrays-after : Arrays → ℕ → List ℕ → List ℕ → Arrays
+arrays-after a line m room = (exported a (to-message line m room)) .0
+
 -- the value that the client has after these calls, if the read that it opened on the line before them is finished
 abbrev pub value-got : Line → List (Exported × Back) → Option (List ℕ)
 value-got l ps = follow (gauge bag552) (twoLines idle) (λ l. eight) l (map (reads (gauge bag552) (twoLines idle) (λ l. eight) (λ l. eightCodec)) (events ps)) []
+
+-- how many messages the line's client sends among these calls
+abbrev pub parts-asked : Line → List (Exported × Back) → ℕ
+parts-asked l ps = partsAsked bag552 l (calls-in ps)
+
+-- a message that is answered opens a read of an entry that holds these bytes, more than four, and these calls come after it: the line's own
+-- messages among them ask for parts "with right toggles"; "the other line [is] free to do anything but a device reset"
+pub record ReadOpened (a : Arrays) (line : ℕ) (m room bytes : List ℕ) (cs : List Exported) : Type 0 where
+  pub answered : (exported a (to-message line m room)) .1 .number ≡ 0
+  pub key : Key
+  pub opens : askOf m ≡ openRead key
+  pub holds : read-whole (store-in a) (key .index) (key .sub) ≡ value bytes
+  pub long : 4 < length bytes
+  pub right : Right (gauge bag552) (twoLines idle) (λ l. eight) (line-of line)
+      (map (meant (gauge bag552) (twoLines idle) (λ l. eight) (λ l. eightCodec)) (calls-in (history (arrays-after a line m room) cs))) false
+  pub calm : NoReset bag552 (board-in (arrays-after a line m room)) (calls-in (history (arrays-after a line m room) cs))
+
+-- the read is finished by exactly L/7 parts, rounded up
+pub record ExactParts (a : Arrays) (line : ℕ) (m room bytes : List ℕ) (cs : List Exported) : Type 0 where
+  pub at-last : parts-asked (line-of line) (history (arrays-after a line m room) cs) ≡ (length bytes + 6) / 7
+      → value-got (line-of line) (history (arrays-after a line m room) cs) ≡ some bytes
+  pub not-before : parts-asked (line-of line) (history (arrays-after a line m room) cs) < (length bytes + 6) / 7
+      → value-got (line-of line) (history (arrays-after a line m room) cs) ≡ none
