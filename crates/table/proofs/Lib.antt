@@ -6,3 +6,4 @@ pub mod Pairs
 pub mod Table
 pub mod ColumnLaws
 pub mod Placed
+pub mod DefaultWords
