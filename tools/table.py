@@ -246,8 +246,37 @@ use Prim.Native.Nat.{ℕ}
     return text + "\nabbrev pub pair-count : ℕ\npair-count = %d\n" % len(pairs)
 
 
-def columns_rt(rows):
+def default_words(rows, end):
+    """The places and numbers of the four-byte words that make the defaults out of zeros."""
+    image = bytearray(end + 3)
+    for row in rows:
+        if held(row):
+            image[row["place"]:row["place"] + held(row)] = row["def"].to_bytes(held(row), "little")
+    words, at = [], 0
+    while at < end:
+        if image[at]:
+            words.append((at, int.from_bytes(image[at:at + 4], "little")))
+            at += 4
+        else:
+            at += 1
+    return words
+
+
+def words_antt(rows, end):
+    words = default_words(rows, end)
+    text = """-- The words that make the defaults out of zeros, as the code has them. tools/table.py writes this file; that they do is
+-- computed in the crate entry. Assumes nothing.
+use mathlib.Core.List.{List, [], _∷_}
+use Prim.Native.Nat.{ℕ}
+"""
+    for name, cells in (("word-places", [p for p, _ in words]), ("words", [w for _, w in words])):
+        text += "\nunfoldable pub %s : List ℕ\n%s = %s∷ []\n" % (name, name, "".join("%d ∷ " % c for c in cells)[:-2])
+    return text
+
+
+def columns_rt(rows, end):
     pairs, numbers = limit_pairs(rows)
+    words = default_words(rows, end)
     columns = [
         ("INDEX", "u16", [r["index"] for r in rows]),
         ("SUB", "u8", [r["sub"] for r in rows]),
@@ -260,10 +289,12 @@ def columns_rt(rows):
         ("DEFAULT", "u32", [r["def"] for r in rows]),
         ("MINIMUM", "u64", [low for low, _ in pairs]),
         ("MAXIMUM", "u64", [high for _, high in pairs]),
+        ("WORD_PLACE", "u16", [place for place, _ in words]),
+        ("WORD", "u32", [word for _, word in words]),
     ]
     text = """// The object table as flat constant arrays. tools/table.py writes this file from docs/object-table.md.
 // LIMITS has for each row the number of its limits in MINIMUM and MAXIMUM: few pairs serve all rows, and a column that is
-// read is laid out on the stack, so columns are narrow.
+// read is laid out on the stack, so columns are narrow. WORD_PLACE and WORD have the words that make the defaults out of zeros.
 pub const ROWS: usize = %d;
 """ % len(rows)
     for name, kind, cells in columns:
@@ -281,8 +312,9 @@ def main():
     files = {
         PAGE: page_with_places(page, rows),
         "crates/table/specs/Rows.antt": rows_antt(rows),
-        "crates/table/src/columns.rt": columns_rt(rows),
+        "crates/table/src/columns.rt": columns_rt(rows, end),
         "crates/table/proofs/Pairs.antt": pairs_antt(rows),
+        "crates/table/proofs/DefaultWords.antt": words_antt(rows, end),
         "crates/table/specs/Places.antt": places_antt(rows),
         "crates/table/src/place.rt": place_rt(rows),
         "crates/rows/stdout": "".join(printed(row) for row in rows),

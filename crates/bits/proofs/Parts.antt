@@ -1,16 +1,16 @@
--- The laws of a field in packed bits: what a run of bits inside one byte says and changes, and fields made of runs. Assumes nothing.
+-- The laws of a field in packed bits: cut out of the bytes that it touches, merged into them, and what a byte says. Assumes nothing.
 use mathlib.Core.List.{List, _∷_, _++_, append-assoc}
 use mathlib.Core.Path.{_≡_, refl, sym, ap, _∙_}
 use Prim.Native.Nat.{ℕ, suc, _+_, _-_, _*_, _/_, _%_, _^_, _≤_, _<_}
-use native.Mathlib.Nat.{mod-lt, lt-of-lt-of-le}
+use native.Mathlib.Nat.{mod-lt, mod-eq-of-lt, div-one, add-zero, lt-of-lt-of-le, mul-assoc, add-mul}
 use native.Mathlib.Omega.{arith}
 use lib.Arith.{digits-lt}
 use lib.ListN.{length, take, drop, getD, set, length-append, length-take}
-use lib.Pow.{pow-pos, shr-shr, mod-mod-pow, shr-lt, pow-add, pow-mono, field as pow-field}
+use lib.Pow.{pow-pos, mod-mod-pow, pow-add, pow-mono, high, low, field as pow-field}
 use lib.Seq.{take-at, drop-at, length-take-le, drop-drop, drop-cons, split-at, set-split, take-add}
-use Rattle.bits.proofs.Numbers.{length-msb, length-bits, bits-append, num-append, num-msb, num-shift, msb-cat, msb-split, small-bits, small-take, small-drop, num-lt}
+use Rattle.bits.proofs.Numbers.{length-msb, length-bits, bits-append, num-append, num-msb, num-shift, msb-cat, msb-split, msb-num, small-bits, small-take, small-drop, num-lt}
 use Rattle.bits.specs.Bits.{msb, bits, num-from, num, field, merged}
-use Rattle.wire.proofs.SpliceLaws.{splice-mid, splice-then, part-length}
+use Rattle.wire.proofs.SpliceLaws.{parts, splice-mid, part-length}
 use Rattle.wire.specs.Splice.{splice}
 
 -- ---- a field
@@ -40,10 +40,23 @@ field-more l at w n h =
     ∙ num-shift (field l at w) (take n (drop w (drop at l)))
     ∙ rw (drop-drop w at l, part-length l (at + w) n h)
 
--- ---- a byte in three parts
+-- a field cut out of a wider one
+pub field-cut : (s : List ℕ) (a o w e : ℕ) → a + (o + (w + e)) ≤ 8 * length s → field (bits s) a (o + (w + e)) / 2 ^ e % 2 ^ w ≡ field (bits s) (a + o) w
+field-cut s a o w e h =
+    let A : ℕ = field (bits s) a o in
+    let B : ℕ = field (bits s) (a + o) w in
+    let C : ℕ = field (bits s) (a + o + w) e in
+    let n = length-bits s in
+    let p : field (bits s) a (o + (w + e)) ≡ (A * 2 ^ w + B) * 2 ^ e + C =
+    field-more (bits s) a o (w + e) (omega arith)
+    ∙ ap (λ (x : ℕ). A * 2 ^ (w + e) + x) (field-more (bits s) (a + o) w e (omega arith))
+    ∙ omega (arith, ap (λ (x : ℕ). A * x) (pow-add 2 w e), mul-assoc A (2 ^ w) (2 ^ e), add-mul (A * 2 ^ w) B (2 ^ e)) in
+    rw (p, high (A * 2 ^ w + B) e (field-lt s (a + o + w) e), low A w (field-lt s (a + o) w))
 
-pub byte-parts : (x o n e : ℕ) → o + (n + e) ≡ 8 → msb 8 x ≡ msb o (x / 2 ^ (n + e)) ++ (msb n (x / 2 ^ e % 2 ^ n) ++ msb e (x % 2 ^ e))
-byte-parts x o n e h =
+-- ---- a number in three parts
+
+pub three-parts : (x k o n e : ℕ) → o + (n + e) ≡ k → msb k x ≡ msb o (x / 2 ^ (n + e)) ++ (msb n (x / 2 ^ e % 2 ^ n) ++ msb e (x % 2 ^ e))
+three-parts x k o n e h =
     ap (λ (w : ℕ). msb w x) (sym h) ∙ msb-split o (n + e) x
     ∙ ap (λ (l : List ℕ). msb o (x / 2 ^ (n + e)) ++ l)
     (msb-split n e (x % 2 ^ (n + e)) ∙ rw (pow-field x n e, mod-mod-pow x n e))
@@ -51,20 +64,63 @@ byte-parts x o n e h =
 pub low-lt : (x n e v : ℕ) → v < 2 ^ n → v * 2 ^ e + x % 2 ^ e < 2 ^ (n + e)
 low-lt x n e v h = rw (pow-add 2 n e) (digits-lt h (mod-lt x (pow-pos e)))
 
-pub byte-merged : (x o n e v : ℕ) → o + (n + e) ≡ 8 → v < 2 ^ n → msb 8 (merged x n e v) ≡ msb o (x / 2 ^ (n + e)) ++ (msb n v ++ msb e (x % 2 ^ e))
+three-merged : (x o n e v : ℕ) → v < 2 ^ n → msb (o + (n + e)) (merged x n e v) ≡ msb o (x / 2 ^ (n + e)) ++ (msb n v ++ msb e (x % 2 ^ e))
 unfolding merged
-byte-merged x o n e v h hv =
-    ap (λ (w : ℕ). msb w (merged x n e v)) (sym h)
-    ∙ msb-cat o (n + e) (x / 2 ^ (n + e)) (v * 2 ^ e + x % 2 ^ e) (low-lt x n e v hv)
+three-merged x o n e v hv =
+    msb-cat o (n + e) (x / 2 ^ (n + e)) (v * 2 ^ e + x % 2 ^ e) (low-lt x n e v hv)
     ∙ ap (λ (l : List ℕ). msb o (x / 2 ^ (n + e)) ++ l) (msb-cat n e v (x % 2 ^ e) (mod-lt x (pow-pos e)))
 
-pub merged-lt : (x o n e v : ℕ) → o + (n + e) ≡ 8 → v < 2 ^ n → x < 256 → merged x n e v < 256
-unfolding merged
-merged-lt x o n e v h hv hx =
-    let p : 2 ^ o * 2 ^ (n + e) ≡ 256 = sym (pow-add 2 o (n + e)) ∙ ap (λ (k : ℕ). 2 ^ k) h in
-    rw p at (digits-lt (shr-lt {n = x} o (n + e) (rw h hx)) (low-lt x n e v hv))
+-- a field merged into a wider one that is put back
+module _ (s : List ℕ) (a o w e v : ℕ) (h : a + (o + (w + e)) ≤ 8 * length s) (hv : v < 2 ^ w) where
+  whole : ℕ
+  whole = field (bits s) a (o + (w + e))
 
--- ---- a run of bits inside one byte
+  abbrev above : List ℕ
+  above = msb o (whole / 2 ^ (w + e))
+
+  abbrev below : List ℕ
+  below = msb e (whole % 2 ^ e)
+
+  abbrev before : List ℕ
+  before = take a (bits s)
+
+  abbrev after : List ℕ
+  after = drop (a + (o + (w + e))) (bits s)
+
+  before-length : length before ≡ a
+  before-length = length-take-le a (bits s) (omega (arith, length-bits s))
+
+  part-is : take (o + (w + e)) (drop a (bits s)) ≡ above ++ (msb w (whole / 2 ^ e % 2 ^ w) ++ below)
+  unfolding whole field
+  part-is =
+      sym (msb-num (o + (w + e)) (take (o + (w + e)) (drop a (bits s))) (small-take (o + (w + e)) (drop a (bits s)) (small-drop a (bits s) (small-bits s))) (part-length (bits s) a (o + (w + e)) (omega (arith, length-bits s))))
+      ∙ three-parts whole (o + (w + e)) o w e refl
+
+  split-bits : bits s ≡ (before ++ above) ++ (msb w (whole / 2 ^ e % 2 ^ w) ++ (below ++ after))
+  split-bits =
+      parts (bits s) a (o + (w + e))
+      ∙ ap (λ (l : List ℕ). before ++ (l ++ after)) part-is
+      ∙ simp append-assoc
+
+  put-whole : splice (bits s) a (msb (o + (w + e)) (merged whole w e v)) ≡ before ++ ((above ++ (msb w v ++ below)) ++ after)
+  put-whole =
+      ap (λ (l : List ℕ). splice l a (msb (o + (w + e)) (merged whole w e v))) (parts (bits s) a (o + (w + e)))
+      ∙ splice-mid before (take (o + (w + e)) (drop a (bits s))) (msb (o + (w + e)) (merged whole w e v)) after a before-length
+      (part-length (bits s) a (o + (w + e)) (omega (arith, length-bits s)) ∙ sym (length-msb _ _))
+      ∙ ap (λ (l : List ℕ). before ++ (l ++ after)) (three-merged whole o w e v hv)
+
+  put-part : splice (bits s) (a + o) (msb w v) ≡ (before ++ above) ++ (msb w v ++ (below ++ after))
+  put-part =
+      ap (λ (l : List ℕ). splice l (a + o) (msb w v)) split-bits
+      ∙ splice-mid (before ++ above) (msb w (whole / 2 ^ e % 2 ^ w)) (msb w v) (below ++ after) (a + o)
+      (omega (arith, length-append before above, before-length, length-msb o (whole / 2 ^ (w + e))))
+      (length-msb w _ ∙ sym (length-msb w v))
+
+  pub splice-merged : splice (bits s) a (msb (o + (w + e)) (merged (field (bits s) a (o + (w + e))) w e v)) ≡ splice (bits s) (a + o) (msb w v)
+  unfolding whole
+  splice-merged = put-whole ∙ simp append-assoc (sym (put-part ∙ simp append-assoc))
+
+-- ---- a byte
 
 pre : List ℕ → ℕ → ℕ → ℕ → ℕ → List ℕ
 pre s p o n e = bits (take p s) ++ msb o (getD s p 0 / 2 ^ (n + e))
@@ -77,7 +133,7 @@ module _ (s : List ℕ) (p o n e : ℕ) (hp : p < length s) (h : o + (n + e) ≡
   unfolding bits pre post
   bits-parts =
       ap bits (split-at s p 0 hp) ∙ bits-append (take p s) (getD s p 0 ∷ drop (suc p) s)
-      ∙ (rw (byte-parts (getD s p 0) o n e h) (simp append-assoc))
+      ∙ (rw (three-parts (getD s p 0) 8 o n e h) (simp append-assoc))
 
   pre-length : length (pre s p o n e) ≡ 8 * p + o
   unfolding pre
@@ -91,47 +147,16 @@ module _ (s : List ℕ) (p o n e : ℕ) (hp : p < length s) (h : o + (n + e) ≡
       ∙ field-mid (pre s p o n e) (msb n (getD s p 0 / 2 ^ e % 2 ^ n)) (post s p e) (8 * p + o) n pre-length (length-msb n _)
       ∙ num-msb n _ (mod-lt _ (pow-pos n))
 
-  put-parts : (v : ℕ) → v < 2 ^ n → bits (set s p (merged (getD s p 0) n e v)) ≡ pre s p o n e ++ (msb n v ++ post s p e)
-  unfolding bits pre post
-  put-parts v hv =
-      ap bits (set-split s p (merged (getD s p 0) n e v) hp)
-      ∙ bits-append (take p s) (merged (getD s p 0) n e v ∷ drop (suc p) s)
-      ∙ (rw (byte-merged (getD s p 0) o n e v h hv) (simp append-assoc))
+pub byte-get : (s : List ℕ) (p : ℕ) → p < length s → getD s p 0 < 256 → field (bits s) (8 * p) 8 ≡ getD s p 0
+byte-get s p h g = rw (add-zero (8 * p)) at (bits-get s p 0 8 0 h refl) ∙ (rw (div-one (getD s p 0)) (mod-eq-of-lt g))
 
-  pub bits-put : (v : ℕ) → v < 2 ^ n → bits (set s p (merged (getD s p 0) n e v)) ≡ splice (bits s) (8 * p + o) (msb n v)
-  bits-put v hv =
-      let m : ℕ = getD s p 0 / 2 ^ e % 2 ^ n in
-      put-parts v hv
-      ∙ sym (splice-mid (pre s p o n e) (msb n m) (msb n v) (post s p e) (8 * p + o) pre-length (length-msb n m ∙ sym (length-msb n v)))
-      ∙ ap (λ (l : List ℕ). splice l (8 * p + o) (msb n v)) (sym bits-parts)
-
-module _ (s : List ℕ) (a n : ℕ) (h : a < 8 * length s) (g : a % 8 + n ≤ 8) where
-  run-place : a ≡ 8 * (a / 8) + a % 8
-  run-place = omega arith
-
-  pub run-get : field (bits s) a n ≡ getD s (a / 8) 0 / 2 ^ (8 - a % 8 - n) % 2 ^ n
-  run-get = ap (λ (j : ℕ). field (bits s) j n) run-place ∙ bits-get s (a / 8) (a % 8) n (8 - a % 8 - n) (omega arith) (omega arith)
-
-  pub run-put : (v : ℕ) → v < 2 ^ n → bits (set s (a / 8) (merged (getD s (a / 8) 0) n (8 - a % 8 - n) v)) ≡ splice (bits s) a (msb n v)
-  run-put v hv =
-      bits-put s (a / 8) (a % 8) n (8 - a % 8 - n) (omega arith) (omega arith) v hv
-      ∙ ap (λ (j : ℕ). splice (bits s) j (msb n v)) (sym run-place)
-
--- ---- the next run of a field
-
-pub splice-next : (l : List ℕ) (at w d n v : ℕ) → d + n ≤ w → at + w ≤ length l
-    → splice (splice l at (msb d (v / 2 ^ (w - d)))) (at + d) (msb n (v / 2 ^ (w - d - n) % 2 ^ n)) ≡ splice l at (msb (d + n) (v / 2 ^ (w - (d + n))))
-splice-next l at w d n v h g =
-    let q : ℕ = v / 2 ^ (w - d - n) in
-    let k : w - d ≡ w - d - n + n = omega arith in
-    let e : v / 2 ^ (w - d) ≡ q / 2 ^ n = ap (λ (j : ℕ). v / 2 ^ j) k ∙ sym (shr-shr v (w - d - n) n) in
-    let r : w - d - n ≡ w - (d + n) = omega arith in
-    let ld : length (msb d (q / 2 ^ n)) ≡ d = length-msb d (q / 2 ^ n) in
-    let ln : length (msb n (q % 2 ^ n)) ≡ n = length-msb n (q % 2 ^ n) in
-    rw (← r, e)
-    (ap (λ (j : ℕ). splice (splice l at (msb d (q / 2 ^ n))) (at + j) (msb n (q % 2 ^ n))) (sym ld)
-    ∙ splice-then l at (msb d (q / 2 ^ n)) (msb n (q % 2 ^ n)) (omega arith)
-    ∙ ap (splice l at) (sym (msb-split d n q)))
+pub byte-put : (s : List ℕ) (p x : ℕ) → p < length s → bits (set s p x) ≡ splice (bits s) (8 * p) (msb 8 x)
+unfolding bits
+byte-put s p x h =
+    let n : length (bits (take p s)) ≡ 8 * p = omega (arith, length-bits (take p s), length-take-le p s (omega arith)) in
+    ap bits (set-split s p x h) ∙ bits-append (take p s) (x ∷ drop (suc p) s)
+    ∙ sym (splice-mid (bits (take p s)) (msb 8 (getD s p 0)) (msb 8 x) (bits (drop (suc p) s)) (8 * p) n (length-msb 8 _ ∙ sym (length-msb 8 x)))
+    ∙ ap (λ (l : List ℕ). splice l (8 * p) (msb 8 x)) (sym (ap bits (split-at s p 0 h) ∙ bits-append (take p s) (getD s p 0 ∷ drop (suc p) s)))
 
 -- ---- one bit
 

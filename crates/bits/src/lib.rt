@@ -1,6 +1,6 @@
 // Fields of bits on packed bytes, most significant bit first: bit k is bit 7 - k % 8 of byte k / 8.
 ghost use mathlib.Core.Path.{_≡_};
-ghost use Prim.Native.Nat.{_+_, _*_, _%_, _^_, _≤_, _<_};
+ghost use Prim.Native.Nat.{_+_, _-_, _*_, _%_, _^_, _≤_, _<_};
 ghost use lib.ListN.{length, take, drop};
 ghost use Rattle.wire.specs.Splice.{splice};
 ghost use Rattle.bits.specs.Bits.{bits, field, msb, packed, merged};
@@ -12,65 +12,60 @@ fn wide(x: u8) -> u32
     x as u32
 }
 
-// ---- A run of bits inside one byte.
-
-// How many of the left bits from a on lie in a's byte.
-fn run_length(a: usize, left: usize) -> usize
-    requires { ⌜ 0 < left ⌝ }
-    ensures { λ r. ⌜ (0 < r) × (r ≤ left) × (a % 8 + r ≤ 8) ⌝ }
+fn wide64(x: u8) -> u64
+    ensures { λ r. ⌜ (r ≡ x) × (r < 256) ⌝ }
 {
-    let n = 8 - a % 8;
-    if left < n {
-        return left;
+    x as u64
+}
+
+// ---- A field: cut out of the bytes that it touches, at most five.
+
+// The number that the bytes from first on and before last say, the highest first.
+fn window(s: &[u8], first: usize, last: usize) -> u64
+    requires { ⌜ (first ≤ last) × (last ≤ first + 5) × (last ≤ length (now s)) ⌝ }
+    ensures { λ r. ⌜ r ≡ field (bits (now (s .entry))) (8 * first) (8 * (last - first)) ⌝ }
+{
+    let mut acc: u64 = 0;
+    let mut i = first;
+    while i < last {
+        acc = acc * 256 + wide64(s[i]);
+        i += 1;
     }
-    n
+    acc
 }
-
-fn get_run(s: &[u8], a: usize, n: usize) -> u32
-    requires { ⌜ (a < 8 * length (now s)) × (a % 8 + n ≤ 8) ⌝ }
-    ensures { λ r. ⌜ r ≡ field (bits (now (s .entry))) a n ⌝ }
-{
-    let low = 8 - a % 8 - n;
-    let x = s[a / 8] as u32;
-    (x >> low) % (1u32 << n)
-}
-
-// The byte x with v in the n bits above its e low ones.
-fn merge(x: u32, n: usize, e: usize, v: u32) -> u32
-    requires { ⌜ (x < 256) × (n + e ≤ 8) × (v < 2 ^ n) ⌝ }
-    ensures { λ r. ⌜ r ≡ merged x n e v ⌝ }
-{
-    let top = n + e;
-    ((x >> top) << top) + ((v << e) + x % (1u32 << e))
-}
-
-fn put_run(s: &mut [u8], a: usize, n: usize, v: u32)
-    requires { ⌜ (a < 8 * length (now s)) × (a % 8 + n ≤ 8) × (v < 2 ^ n) ⌝ }
-    ensures { λ r. ⌜ bits (now (s .exit)) ≡ splice (bits (now (s .entry))) a (msb n v) ⌝ }
-{
-    let p = a / 8;
-    let e = 8 - a % 8 - n;
-    let x = s[p] as u32;
-    let y = merge(x, n, e, v);
-    s[p] = y as u8;
-}
-
-// ---- A field: a run in each byte that it touches.
 
 // The number in the width bits from bit at on.
 pub fn get_field(s: &[u8], at: usize, width: usize) -> u32
     requires { ⌜ (at + width ≤ 8 * length (now s)) × (at ≤ 4096) × (width ≤ 32) ⌝ }
     ensures { λ r. ⌜ r ≡ field (bits (now (s .entry))) at width ⌝ }
 {
-    let mut acc: u32 = 0;
-    let mut done: usize = 0;
-    while done < width {
-        let n = run_length(at + done, width - done);
-        let v = get_run(s, at + done, n);
-        acc = (acc << n) + v;
-        done += n;
+    let last = (at + width + 7) / 8;
+    let low = 8 * last - at - width;
+    let v = window(s, at / 8, last);
+    ((v >> low) % (1u64 << width)) as u32
+}
+
+// The number x with v in the n bits above its e low ones.
+fn merge(x: u64, n: usize, e: usize, v: u64) -> u64
+    requires { ⌜ (x < 2 ^ 40) × (n + e ≤ 40) × (v < 2 ^ n) ⌝ }
+    ensures { λ r. ⌜ r ≡ merged x n e v ⌝ }
+{
+    let top = n + e;
+    ((x >> top) << top) + ((v << e) + x % (1u64 << e))
+}
+
+// The low bytes of v into the bytes from first on and before last, the highest first.
+fn spread(s: &mut [u8], first: usize, last: usize, v: u64)
+    requires { ⌜ (first ≤ last) × (last ≤ length (now s)) ⌝ }
+    ensures { λ _. ⌜ bits (now (s .exit)) ≡ splice (bits (now (s .entry))) (8 * first) (msb (8 * (last - first)) v) ⌝ }
+{
+    let mut rest = v;
+    let mut i = last;
+    while first < i {
+        i -= 1;
+        s[i] = (rest % 256) as u8;
+        rest /= 256;
     }
-    acc
 }
 
 // The value into the width bits from bit at on.
@@ -78,14 +73,12 @@ pub fn put_field(s: &mut [u8], at: usize, width: usize, value: u32)
     requires { ⌜ (at + width ≤ 8 * length (now s)) × (at ≤ 4096) × (width ≤ 32) × (value < 2 ^ width) ⌝ }
     ensures { λ r. ⌜ bits (now (s .exit)) ≡ splice (bits (now (s .entry))) at (msb width value) ⌝ }
 {
-    let mut done: usize = 0;
-    while done < width {
-        let n = run_length(at + done, width - done);
-        let rest = width - done - n;
-        let v = (value >> rest) % (1u32 << n);
-        put_run(s, at + done, n, v);
-        done += n;
-    }
+    let first = at / 8;
+    let last = (at + width + 7) / 8;
+    let low = 8 * last - at - width;
+    let v = window(s, first, last);
+    let wide = value as u64;
+    spread(s, first, last, merge(v, width, low, wide));
 }
 
 // ---- Fields one after the other.

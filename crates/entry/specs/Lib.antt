@@ -1,3 +1,4 @@
 -- What one row's entry means in the values.
 pub mod Limits
 pub mod Entry
+pub mod Words

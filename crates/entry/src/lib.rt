@@ -4,30 +4,18 @@ pub mod limits;
 use limits::Verdict;
 ghost use mathlib.Core.Path.{_≡_};
 ghost use Prim.Native.Nat.{_+_, _<_, _≤_};
-ghost use lib.ListN.{length};
+ghost use lib.ListN.{length, replicate};
 ghost use Rattle.wire.specs.Little.{number};
-ghost use Rattle.table.specs.Row.{Row, REAL};
+ghost use Rattle.table.specs.Row.{REAL};
 ghost use Rattle.table.specs.Rows.{rows, row-count, at-row};
 ghost use Rattle.table.specs.Rule.{held};
-ghost use Rattle.table.specs.Columns.{column};
+ghost use Rattle.entry.specs.Words.{worded, Room};
 ghost use Rattle.entry.specs.Entry.{held-by, entry-of, copied, stored, defaulted, defaults, number-verdict, row-verdict};
-
-fn wide8(x: u8) -> usize
-    ensures { λ r. ⌜ r ≡ x ⌝ }
-{
-    x as usize
-}
 
 fn wide16(x: u16) -> usize
     ensures { λ r. ⌜ r ≡ x ⌝ }
 {
     x as usize
-}
-
-fn wide32(x: u32) -> u64
-    ensures { λ r. ⌜ r ≡ x ⌝ }
-{
-    x as u64
 }
 
 // The bytes that an entry has in the values, by its type and length.
@@ -116,6 +104,7 @@ pub fn store_entry(values: &mut [u8], row: usize, value: &[u8])
 
 // ---- defaults
 
+// One row's default.
 pub fn put_default(values: &mut [u8], row: usize)
     requires { ⌜ (length (now values) ≡ 1024) × (row < row-count) ⌝ }
     ensures { λ _. ⌜ now (values .exit) ≡ defaulted (at-row row) (now (values .entry)) ⌝ }
@@ -128,31 +117,23 @@ pub fn put_default(values: &mut [u8], row: usize)
     );
 }
 
-// The columns are lent, so that they are laid out once for all rows.
-fn put_all(values: &mut [u8], kinds: &[u8], lens: &[u8], places: &[u16], defs: &[u32])
-    requires { ⌜ length (now values) ≡ 1024 ⌝ }
-    requires { ⌜ (now kinds ≡ column (λ (r : Row). r .kind)) × (now lens ≡ column (λ (r : Row). r .len)) ⌝ }
-    requires { ⌜ (now places ≡ column (λ (r : Row). r .place)) × (now defs ≡ column (λ (r : Row). r .def)) ⌝ }
-    ensures { λ _. ⌜ now (values .exit) ≡ defaults rows (now (values .entry)) ⌝ }
+// Words of four bytes, each at its place. The columns are lent, so that they are laid out once for all words.
+fn put_words(values: &mut [u8], places: &[u16], words: &[u32])
+    requires { ⌜ Room (now places) (now words) (length (now values)) ⌝ }
+    ensures { λ _. ⌜ now (values .exit) ≡ worded (now (places .entry)) (now (words .entry)) (now (values .entry)) ⌝ }
 {
-    let mut row = 0;
-    while row < table::ROWS {
-        let len = held_by(kinds[row], wide8(lens[row]));
-        wire::put_number(values, wide16(places[row]), len, wide32(defs[row]));
-        row += 1;
+    let mut i = 0;
+    while i < places.len() {
+        wire::put_word(values, wide16(places[i]), words[i]);
+        i += 1;
     }
 }
 
-// Every row's default, in table order.
+// Every row's default, and zero in the bytes of no row. Most defaults are zeros, so only the words that are not are put.
 pub fn put_defaults(values: &mut [u8])
     requires { ⌜ length (now values) ≡ 1024 ⌝ }
-    ensures { λ _. ⌜ now (values .exit) ≡ defaults rows (now (values .entry)) ⌝ }
+    ensures { λ _. ⌜ now (values .exit) ≡ defaults rows (replicate 1024 0) ⌝ }
 {
-    put_all(
-        values,
-        &table::columns::KIND,
-        &table::columns::LEN,
-        &table::columns::PLACE,
-        &table::columns::DEFAULT,
-    );
+    wire::clear(values);
+    put_words(values, &table::columns::WORD_PLACE, &table::columns::WORD);
 }

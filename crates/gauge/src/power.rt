@@ -8,7 +8,6 @@ pub fn fill(values: &mut [u8], block: &[u8])
     requires { ⌜ (length (now values) ≡ 1024) × (length (now block) ≡ 512) ⌝ }
     ensures { λ _. ⌜ now (values .exit) ≡ fresh-values (now (block .entry)) ⌝ }
 {
-    wire::clear(values);
     entry::put_defaults(values);
     block::load(block, values);
 }

@@ -7,3 +7,4 @@ pub mod Pairs
 pub mod Table
 pub mod ColumnLaws
 pub mod Placed
+pub mod DefaultWords

@@ -4,7 +4,9 @@ use mathlib.Core.Path.{_≡_, refl, sym, ap, _∙_}
 use mathlib.Core.Bool.{Bool, true, false}
 use mathlib.Core.List.{List, [], _∷_}
 use Prim.Native.Nat.{ℕ, zero, suc, _+_, _<_, _≤_}
+use native.Mathlib.Nat.{add-zero}
 use native.Mathlib.Numerals.{add-one}
+use native.Mathlib.Omega.{arith}
 use lib.Dec.{eqb}
 use lib.ListN.{length, getD, drop, drop-of-length-le}
 use lib.Seq.{drop-cons}
@@ -32,3 +34,13 @@ module _ (xs : List Row) (k : ℕ) (seen : Bool) (i s : ℕ) (h : k < length xs)
 pub find-end : (xs : List Row) (k : ℕ) (seen : Bool) (i s : ℕ) → length xs ≤ k → find-from (drop k xs) k seen i s ≡ absence seen
 unfolding find-from
 find-end xs k seen i s h = ap (λ (l : List Row). find-from l k seen i s) (drop-of-length-le xs h)
+
+-- rows without the index are passed over
+pub find-past : (xs : List Row) (n k : ℕ) (seen : Bool) (i s : ℕ) → k + n ≤ length xs → ((m : ℕ) → k ≤ m → m < k + n → getD xs m no-row .index ≡ i → ⊥)
+    → find-from (drop k xs) k seen i s ≡ find-from (drop (k + n) xs) (k + n) seen i s
+find-past xs zero k seen i s h f = rw add-zero
+find-past xs (suc n) k seen i s h f =
+    let e : k + 1 + n ≡ k + suc n = omega arith in
+    find-other xs k seen i s (omega arith) (f k (omega arith) (omega arith))
+    ∙ find-past xs n (k + 1) seen i s (omega arith) (λ m a b. f m (omega arith) (omega arith))
+    ∙ rw e

@@ -2,10 +2,10 @@
 -- Assumes nothing.
 use mathlib.Core.Bool.{Bool, true, false}
 use mathlib.Core.List.{List, [], _∷_}
-use Prim.Native.Nat.{ℕ, suc}
+use Prim.Native.Nat.{ℕ, suc, _≤_, _<_}
 use lib.Dec.{eqb}
 use Rattle.table.specs.Row.{Row}
-use Rattle.table.specs.Rows.{rows}
+use Rattle.table.specs.Rows.{rows, row-count, at-row}
 use Rattle.table.specs.declared.Found.{Found}
 use Rattle.table.specs.declared.Found.the-variants.{At, NoIndex, NoSub}
 
@@ -30,3 +30,8 @@ find-from (r ∷ rs) n seen i s =
 
 unfoldable pub find-row : ℕ → ℕ → Found
 find-row i s = find-from rows 0 false i s
+
+-- no row before row r has the index, and all before it are rows of the table
+pub record Below (r i : ℕ) : Type 0 where
+  pub inside : r ≤ row-count
+  pub none : (m : ℕ) → m < r → at-row m .index < i

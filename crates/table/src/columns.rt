@@ -1,6 +1,6 @@
 // The object table as flat constant arrays. tools/table.py writes this file from docs/object-table.md.
 // LIMITS has for each row the number of its limits in MINIMUM and MAXIMUM: few pairs serve all rows, and a column that is
-// read is laid out on the stack, so columns are narrow.
+// read is laid out on the stack, so columns are narrow. WORD_PLACE and WORD have the words that make the defaults out of zeros.
 pub const ROWS: usize = 129;
 
 pub const INDEX: [u16; 129] = [
@@ -1225,4 +1225,46 @@ pub const MAXIMUM: [u64; 15] = [
     2148471808,
     4249747456,
     5,
+];
+
+pub const WORD_PLACE: [u16; 18] = [
+    0,
+    156,
+    160,
+    164,
+    168,
+    172,
+    176,
+    180,
+    253,
+    265,
+    277,
+    293,
+    303,
+    315,
+    331,
+    346,
+    462,
+    468,
+];
+
+pub const WORD: [u32; 18] = [
+    5003,
+    1610940673,
+    1610940929,
+    1610941185,
+    5,
+    1610617138,
+    4085252104,
+    4131455282,
+    1,
+    8392209,
+    8392212,
+    6291473,
+    8392465,
+    8392468,
+    6291473,
+    65552,
+    65570,
+    336,
 ];

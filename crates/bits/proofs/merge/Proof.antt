@@ -9,26 +9,14 @@ use Rattle.bits.proofs.merge.Tie as tie
 add-top : tie.Need-add-top
 add-top c = search needs
 
-cast-result : tie.Need-cast-result
-cast-result c = search needs
-
 shr-result : tie.Need-shr-result
 shr-result c = search needs
-
-cast-result-2 : tie.Need-cast-result-2
-cast-result-2 c = search needs
 
 shl-result : tie.Need-shl-result
 shl-result c = search needs
 
-cast-result-3 : tie.Need-cast-result-3
-cast-result-3 c = search needs
-
 shl-result-2 : tie.Need-shl-result-2
 shl-result-2 c = search needs
-
-cast-result-4 : tie.Need-cast-result-4
-cast-result-4 c = search needs
 
 shl-result-3 : tie.Need-shl-result-3
 shl-result-3 c = search needs
@@ -50,13 +38,9 @@ merge-spec =
     tie.close
     (tie.spec
     add-top
-    cast-result
     shr-result
-    cast-result-2
     shl-result
-    cast-result-3
     shl-result-2
-    cast-result-4
     shl-result-3
     rem-result
     add-result

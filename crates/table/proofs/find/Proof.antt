@@ -1,4 +1,4 @@
--- `table::find`: the columns lent to the scan are the table's. Assumes nothing.
+-- `table::find`: the columns lent to the search are the table's. Assumes nothing.
 use mathlib.Core.Path.{refl}
 use borrow.Author.Needs.{needs}
 use Rattle.table.specs.Rows.{rows}
@@ -6,18 +6,18 @@ use Rattle.table.specs.Columns.{column}
 use Rattle.table.proofs.find.Statement.{statement}
 use Rattle.table.proofs.find.Tie as tie
 
-slice-aggregate-scan : tie.Need-slice-aggregate-scan
-slice-aggregate-scan c = search needs
+slice-aggregate-search : tie.Need-slice-aggregate-search
+slice-aggregate-search c = search needs
 
-slice-aggregate-scan-2 : tie.Need-slice-aggregate-scan-2
-slice-aggregate-scan-2 c = search needs
+slice-aggregate-search-2 : tie.Need-slice-aggregate-search-2
+slice-aggregate-search-2 c = search needs
 
-scan-requires : tie.Need-scan-requires
+search-requires : tie.Need-search-requires
 unfolding rows column
-scan-requires c κs = (refl, refl)
+search-requires c κs = (refl, refl)
 
 returns : tie.Need-returns
 returns c = search needs
 
 pub find-spec : {M : Type 1} → statement M
-find-spec = tie.close (tie.spec slice-aggregate-scan slice-aggregate-scan-2 scan-requires returns)
+find-spec = tie.close (tie.spec slice-aggregate-search slice-aggregate-search-2 search-requires returns)

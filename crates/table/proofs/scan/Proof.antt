@@ -8,37 +8,52 @@ use native.Mathlib.Omega.{arith}
 use borrow.Author.Needs.{needs}
 use lib.ListN.{length, drop}
 use Rattle.table.specs.Rows.{rows, row-count}
-use Rattle.table.specs.Find.{absence, find-from, find-row}
+use Rattle.table.specs.Find.{absence, find-from, find-row, Below}
 use Rattle.table.proofs.SearchSteps.{find-hit, find-sub, find-other, find-end}
 use Rattle.table.specs.Row.{Row}
-use Rattle.table.proofs.Table.{rows-length}
+use Rattle.table.proofs.Table.{rows-length, from-below, above-ends}
 use Rattle.table.proofs.ColumnLaws.{field-at, column-long}
 use Rattle.table.proofs.scan.Statement.{statement}
 use Rattle.table.proofs.scan.Tie as tie
 
 abbrev Inv-loop : tie.InvT-loop
-Inv-loop indices subs index sub seen₀ row₀ seen row = (row ≤ row-count) × (find-from (drop row rows) row seen index sub ≡ find-row index sub)
+Inv-loop indices subs from index sub seen₀ row₀ seen row = (row ≤ row-count) × (find-from (drop row rows) row seen index sub ≡ find-row index sub)
 
 abbrev μ-loop : tie.MeasureT-loop
-μ-loop indices subs index sub seen₀ row₀ seen row = row-count - row
+μ-loop indices subs from index sub seen₀ row₀ seen row = row-count - row
 
 loop-holds : tie.Need-loop-holds Inv-loop μ-loop
-unfolding find-row
-loop-holds c = (search needs, refl)
+loop-holds c = let b = c .before .before in (b .pre .2 .inside, from-below _ _ _ (b .pre .2))
 
 mul-if1 : tie.Need-mul-if1 Inv-loop μ-loop
 mul-if1 c = search needs
 
 shared-slice-read-if1 : tie.Need-shared-slice-read-if1 Inv-loop μ-loop
-shared-slice-read-if1 c = let b = c .before .before .before in omega (arith, column-long (λ (r : Row). r .index) (b .args .indices .now) (b .pre .0))
+shared-slice-read-if1 c = let b = c .before .before .before .before .before in omega (arith, column-long (λ (r : Row). r .index) (b .args .indices .now) (b .pre .0))
 
-shared-slice-read-if2 : tie.Need-shared-slice-read-if2 Inv-loop μ-loop
-shared-slice-read-if2 c = let b = c .before .before .before .before .before in omega (arith, column-long (λ (r : Row). r .sub) (b .args .subs .now) (b .pre .1))
+absent-requires : tie.Need-absent-requires Inv-loop μ-loop
+absent-requires c κs = tt
 
 returns : tie.Need-returns Inv-loop μ-loop
 returns c =
-    let l = c .before .before .before .before .before .loop in
-    let b = c .before .before .before .before .before .before in
+    let l = c .before .before .before .before .loop in
+    let b = c .before .before .before .before .before .before .before in
+    let ei = field-at (λ (r : Row). r .index) (b .args .indices .now) (l .row) (b .pre .0) in
+    c .absent .ensures ∙ sym (above-ends (l .row) (l .seen) (b .args .index) (b .args .sub) (omega arith) (omega (arith, c .before .if1 .taken))) ∙ l .inv .1
+
+mul-if2 : tie.Need-mul-if2 Inv-loop μ-loop
+mul-if2 c = search needs
+
+shared-slice-read-if2 : tie.Need-shared-slice-read-if2 Inv-loop μ-loop
+shared-slice-read-if2 c = let b = c .before .before .before .before .before .before .before in omega (arith, column-long (λ (r : Row). r .index) (b .args .indices .now) (b .pre .0))
+
+shared-slice-read-if3 : tie.Need-shared-slice-read-if3 Inv-loop μ-loop
+shared-slice-read-if3 c = let b = c .before .before .before .before .before .before .before .before .before in omega (arith, column-long (λ (r : Row). r .sub) (b .args .subs .now) (b .pre .1))
+
+returns-2 : tie.Need-returns-2 Inv-loop μ-loop
+returns-2 c =
+    let l = c .before .before .before .before .before .before .before .loop in
+    let b = c .before .before .before .before .before .before .before .before .before .before in
     let ei = field-at (λ (r : Row). r .index) (b .args .indices .now) (l .row) (b .pre .0) in
     let es = field-at (λ (r : Row). r .sub) (b .args .subs .now) (l .row) (b .pre .1) in
     sym (find-hit rows (l .row) (l .seen) _ _ (omega (arith, rows-length)) (omega arith) (omega arith)) ∙ l .inv .1
@@ -51,8 +66,8 @@ loop-less c = search needs
 
 loop-again : tie.Need-loop-again Inv-loop μ-loop
 loop-again c =
-    let l = c .before .before .before .loop in
-    let b = c .before .before .before .before in
+    let l = c .before .before .before .before .before .loop in
+    let b = c .before .before .before .before .before .before .before .before in
     let h : l .row < length rows = omega (arith, rows-length) in
     let ei = field-at (λ (r : Row). r .index) (b .args .indices .now) (l .row) (b .pre .0) in
     let es = field-at (λ (r : Row). r .sub) (b .args .subs .now) (l .row) (b .pre .1) in (
@@ -60,18 +75,16 @@ loop-again c =
       ⊎-elim
           (λ w. cc (find-sub rows (l .row) (l .seen) (b .args .index) (b .args .sub) h (omega arith) (omega arith)))
           (λ w. cc (find-other rows (l .row) (l .seen) (b .args .index) (b .args .sub) h (omega arith)))
-          (c .if1 .came),
+          (c .if2 .came),
     )
 
-returns-2 : tie.Need-returns-2 Inv-loop μ-loop
-returns-2 c =
-    let l = c .before .before .loop in
-    sym (find-end rows (l .row) (l .seen) _ _ (omega (arith, rows-length)) ∙ ap absence (c .if3 .taken)) ∙ l .inv .1
+absent-requires-2 : tie.Need-absent-requires-2 Inv-loop μ-loop
+absent-requires-2 c κs = tt
 
 returns-3 : tie.Need-returns-3 Inv-loop μ-loop
 returns-3 c =
     let l = c .before .before .loop in
-    sym (find-end rows (l .row) (l .seen) _ _ (omega (arith, rows-length)) ∙ ap absence (c .if3 .left)) ∙ l .inv .1
+    c .absent2 .ensures ∙ sym (find-end rows (l .row) (l .seen) _ _ (omega (arith, rows-length))) ∙ l .inv .1
 
 pub scan-spec : {M : Type 1} → statement M
 scan-spec =
@@ -82,10 +95,14 @@ scan-spec =
     loop-holds
     mul-if1
     shared-slice-read-if1
-    shared-slice-read-if2
+    absent-requires
     returns
+    mul-if2
+    shared-slice-read-if2
+    shared-slice-read-if3
+    returns-2
     add-row
     loop-less
     loop-again
-    returns-2
+    absent-requires-2
     returns-3)

@@ -1,11 +1,8 @@
--- `gauge::power::fill`: three writes. Assumes nothing.
+-- `gauge::power::fill`: two writes. Assumes nothing.
 use borrow.Author.Needs.{needs}
 use Rattle.gauge.specs.PowerUp.{fresh-values}
 use Rattle.gauge.proofs.power.fill.Statement.{statement}
 use Rattle.gauge.proofs.power.fill.Tie as tie
-
-clear-requires : tie.Need-clear-requires
-clear-requires c κs = search needs
 
 put-defaults-requires : tie.Need-put-defaults-requires
 put-defaults-requires c κs = search needs
@@ -18,8 +15,7 @@ same-length c = search needs
 
 returns : tie.Need-returns
 unfolding fresh-values
-returns c = rw (c .before .before .load .ensures .1, c .before .before .before .before .before .before .put-defaults .ensures, c .before .before .before .before .before .before .before .before .before .before .clear .ensures, c .before .before .before .before .before .before .before .before .before .before .before .before .before .before .pre .0)
+returns c = rw (c .before .before .load .ensures .1, c .before .before .before .before .before .before .put-defaults .ensures)
 
 pub fill-spec : {M : Type 1} → statement M
-fill-spec =
-    tie.close (tie.spec clear-requires put-defaults-requires load-requires same-length returns)
+fill-spec = tie.close (tie.spec put-defaults-requires load-requires same-length returns)
