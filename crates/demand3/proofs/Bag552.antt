@@ -1,7 +1,7 @@
 -- THE BOARD'S GAUGE MEETS WHAT DEMAND 3 ASKS: its codes, its lengths, its rows; and so demand 3 for the board with its records by value.
-use Prim.Native.Nat.{ℕ, _+_, _%_, _≤_, _<_}
+use Prim.Native.Nat.{ℕ, _%_, _≤_, _<_}
 use native.Mathlib.Omega.{arith}
-use mathlib.Core.Path.{_≡_, refl, sym, subst, _∙_}
+use mathlib.Core.Path.{_≡_, refl, subst}
 use mathlib.Core.Logic.{_⊎_, inl, inr}
 use mathlib.Core.Bool.{Bool, true, false, cond}
 use mathlib.Core.List.{List}
@@ -20,11 +20,10 @@ use Rattle.entry.specs.Entry.{entry-of}
 use Rattle.entry.proofs.RowLaws.{held-most}
 use Rattle.card.proofs.Made.{length-card}
 use Rattle.gauge.specs.Gates.{gate, read-gate, write-gate, write-only, read-only, smallest, largest, sizes-of}
-use Rattle.gauge.specs.Memory.{Memory, Store, memory-of, all-off}
+use Rattle.gauge.specs.Memory.{Memory, Store}
 use Rattle.gauge.specs.Words.{command-at, read-word, word-of, same-bytes}
 use Rattle.gauge.specs.Lock.{locked}
 use Rattle.gauge.specs.Commands.{done, obeyed}
-use Rattle.gauge.specs.PowerUp.{fresh-values}
 use Rattle.gauge.specs.Whole.{by-type, value-of, read-through, read-whole, is-code, first-code, last-checks, effect, accepted, commit-row, with-trips, commit-through, commit-whole, write-sizes}
 use Rattle.gauge.specs.declared.gate.Gate.{Gate}
 use Rattle.gauge.specs.declared.gate.Gate.the-variants.{Open, Shut}
@@ -37,7 +36,7 @@ use Rattle.sdo.specs.Eight.{Code}
 use Rattle.sdo.specs.Lines.{Sound, BoardCall}
 use Rattle.sdo.specs.Records.{allows, RowOf, GoodAfter, Rows, Demand3Records}
 use Rattle.sdo.proofs.DemandRecords.{demand3-records}
-use Rattle.board.specs.Gauge.{Sample, sampled, bag552}
+use Rattle.board.specs.Gauge.{sampled, bag552}
 use Rattle.demand3.specs.Firmware.{powered-store}
 use Rattle.demand3.proofs.Lengths.{values-long, fresh-long, Sized, SizedAfter, commit-sized}
 

@@ -1,44 +1,42 @@
 -- DEMAND 3, DOWN TO THE EXPORTED CALLS: on lent arrays each call is a call of the board with its records by value, or no event at all.
-use Prim.Native.Nat.{ℕ, zero, suc, _+_, _/_, _≤_, _<_}
+use Prim.Native.Nat.{ℕ, zero, suc, _+_, _≤_, _<_}
 use native.Mathlib.Omega.{arith}
-use mathlib.Core.Path.{_≡_, refl, sym, ap, ap₂, subst, _∙_}
+use mathlib.Core.Path.{_≡_, refl, sym, ap, subst, _∙_}
 use mathlib.Core.Logic.{_⊎_, inl, inr}
 use mathlib.Core.Bool.{Bool, true, false, cond, _&&_}
 use mathlib.Core.List.{List, [], _∷_, map}
 use mathlib.Core.Option.{Option, none, some, Option·map}
-use lib.Dec.{eqb, leb}
-use lib.ListN.{length, take, drop}
+use lib.Dec.{eqb}
+use lib.ListN.{length}
 use borrow.Author.Tests.{eqb-true, eqb-false, eq-eqb, le-leb}
 use Rattle.wire.specs.Splice.{splice}
 use Rattle.wire.proofs.SpliceLaws.{length-splice, part-length, part-same}
 use Rattle.table.proofs.Walks.{lt-or-ge}
 use Rattle.trip.specs.declared.Trips.{Trips}
 use Rattle.sample.specs.Sample.{trips-after, values-after}
-use Rattle.order.specs.Talk.{idle, openRead, value}
+use Rattle.order.specs.Talk.{idle}
 use Rattle.order.specs.Gauge.{results, endOf}
 use Rattle.order.specs.Observe.{Done}
 use Rattle.order.specs.Promise.{opsOf, gotOf}
-use Rattle.order.specs.Bytes.{heard, fed, client}
+use Rattle.order.specs.Bytes.{heard, client}
 use Rattle.gauge.specs.Memory.{Store, memory-of, all-off}
 use Rattle.gauge.specs.PowerUp.{fresh-values}
-use Rattle.gauge.specs.Whole.{read-whole}
-use Rattle.sdo.specs.declared.Key.{Key}
 use Rattle.sdo.specs.declared.Message.{Message}
 use Rattle.sdo.specs.declared.Message.the-variants.{GiveUp}
 use Rattle.sdo.specs.declared.Transfer.{Transfer}
-use Rattle.sdo.specs.Eight.{messageOf, askOf}
-use Rattle.sdo.specs.Lines.{gauge, eight, Line, tool, service, Both, atLine, setLine, both, twoLines, eightCodec, BoardCall, partsAsked}
-use Rattle.sdo.specs.Records.{allZero, Spoken, speak, RecordBoard, recordsAfter, recordCall, recordTalk, recordEnd, recordStart, RecordParts, Demand3Records}
+use Rattle.sdo.specs.Eight.{messageOf}
+use Rattle.sdo.specs.Lines.{gauge, eight, Line, tool, service, Both, atLine, setLine, both, twoLines, eightCodec, BoardCall}
+use Rattle.sdo.specs.Records.{allZero, Spoken, speak, RecordBoard, recordsAfter, recordCall, recordTalk, recordEnd, recordStart, Demand3Records}
 use Rattle.sdo.proofs.RecordLaws.{Whole, Small, served-small}
-use Rattle.sdo.proofs.Demand.{spoken-eight}
-use Rattle.sdo.proofs.DemandRecords.{next-served, next-whole, WholeBoard, Follows, follows, record-finished, record-not-finished}
+use Rattle.sdo.proofs.Demand.{spoken-eight, unfinished}
+use Rattle.sdo.proofs.DemandRecords.{next-served, next-whole, WholeBoard, follows}
 use Rattle.board.specs.State.{record-place, record-at, record-bytes, trips-place, trips-at, trips-bytes}
 use Rattle.board.specs.Gauge.{Sample, sampled, bag552}
-use Rattle.board.specs.Answering.{is-abort, Acted, act-by, reply-to, spoken-by}
+use Rattle.board.specs.Answering.{is-abort, Acted, spoken-by}
 use Rattle.board.specs.Calls.{Called, Fed, store-of, sized, called, number-by, dropped, settled, served, message-call, power-up-call, powered, fed-by, sample-call}
 use Rattle.board.proofs.Spoken.{speak-is, given-up}
 use Rattle.board.proofs.CallLaws.{abort-is, place-most, all-sized, no-line, no-room, no-message, is-served}
-use Rattle.demand3.specs.Firmware.{Arrays, arrays, Exported, to-message, to-sample, to-image, Back, back, by-message, by-sample, by-power-up, exported, history, final, power-on, line-of, answer-by, Answered, event-of, with-event, events, calls-in, observed, powered-store, store-in, board-in, value-got, Demand3Calls}
+use Rattle.demand3.specs.Firmware.{Arrays, arrays, Exported, to-message, to-sample, to-image, Back, back, by-message, by-sample, exported, history, final, power-on, line-of, answer-by, ends-write, Answered, event-of, with-event, events, calls-in, observed, powered-store, store-in, board-in, Demand3Calls}
 use Rattle.demand3.proofs.Lengths.{values-long, fresh-long}
 use Rattle.demand3.proofs.Bag552.{sound, real-rows, GoodStore, good, good-is, demand3-board}
 use Rattle.demand3.proofs.StateBytes.{record-long, record-back, record-beside, trips-long, trips-back, trips-beside}
@@ -244,24 +242,44 @@ module _ (a : Arrays) (ok : Lent a) (line : ℕ) (m room : List ℕ) where
         (sym (answer-read (said a ok line h m .bytes) room (spoken-eight bag552 sound (store-in a) (own a ok line h m) m))) (message-follows a ok line h m),
   )
 
-  fine-message : Fine a c (by-message (message-call line m (a .values) (a .block) (a .state) room))
-  unfolding event-of answer-by
-  fine-message = by-line (lt-or-ge 1 line)
+  -- a message call is refused by 1, 2 or 3, or served
+  by-cases : (Is : Called → Type 0) → Is (called 1 (a .values) (a .block) (a .state) room) → Is (called 2 (a .values) (a .block) (a .state) room)
+      → Is (called 3 (a .values) (a .block) (a .state) room) → ((h : line ≤ 1) → Is (served line (said a ok line h m) (a .state) room))
+      → Is (message-call line m (a .values) (a .block) (a .state) room)
+  by-cases Is one two three done = by-line (lt-or-ge 1 line)
     where
-      Is : Called → Type 0
-      Is x = Fine a c (by-message x)
-
       by-length : line ≤ 1 → 8 ≤ length room → (b : Bool) → eqb (length m) 8 ≡ b → Is (message-call line m (a .values) (a .block) (a .state) room)
-      by-length h r true e = subst Is (is-served line m (a .values) (a .block) (a .state) room good-lengths h r (eqb-true (length m) 8 e)) (fine-served h)
-      by-length h r false e = subst Is (no-message line m (a .values) (a .block) (a .state) room good-lengths h r (eqb-false (length m) 8 e)) (ok, refl)
+      by-length h r true e = subst Is (is-served line m (a .values) (a .block) (a .state) room good-lengths h r (eqb-true (length m) 8 e)) (done h)
+      by-length h r false e = subst Is (no-message line m (a .values) (a .block) (a .state) room good-lengths h r (eqb-false (length m) 8 e)) one
 
       by-room : line ≤ 1 → (length room < 8) ⊎ (8 ≤ length room) → Is (message-call line m (a .values) (a .block) (a .state) room)
-      by-room h (inl r) = subst Is (no-room line m (a .values) (a .block) (a .state) room good-lengths h r) (ok, refl)
+      by-room h (inl r) = subst Is (no-room line m (a .values) (a .block) (a .state) room good-lengths h r) two
       by-room h (inr r) = by-length h r (eqb (length m) 8) refl
 
       by-line : (1 < line) ⊎ (line ≤ 1) → Is (message-call line m (a .values) (a .block) (a .state) room)
-      by-line (inl h) = subst Is (no-line line m (a .values) (a .block) (a .state) room good-lengths h) (ok, refl)
+      by-line (inl h) = subst Is (no-line line m (a .values) (a .block) (a .state) room good-lengths h) three
       by-line (inr h) = by-room h (lt-or-ge (length room) 8)
+
+  fine-message : Fine a c (by-message (message-call line m (a .values) (a .block) (a .state) room))
+  unfolding event-of answer-by
+  fine-message = by-cases (λ (x : Called). Fine a c (by-message x)) (ok, refl) (ok, refl) (ok, refl) fine-served
+
+  -- a message call that the observer does not see end a write with yes
+  abbrev Leaves : Arrays × Back → Type 0
+  Leaves x = ends-write m (answer-by (x .1)) ≡ false → store-in (x .0) ≡ store-in a
+
+  leaves-served : (h : line ≤ 1) → Leaves (by-message (served line (said a ok line h m) (a .state) room))
+  unfolding served ends-write
+  leaves-served h e =
+      let bytes : List ℕ = said a ok line h m .bytes in
+      sym (store-after a ok line h m)
+      ∙ unfinished bag552 sound (store-in a) (own a ok line h m) m
+      (subst (λ (o : Option (List ℕ)). ends-write m o ≡ false) (answer-read bytes room (spoken-eight bag552 sound (store-in a) (own a ok line h m) m)) e)
+
+  -- THEOREM: a transfer that is under way, refused or dropped changes no value, no byte of the block and no trip state
+  pub unfinished-leaves : Leaves (exported a c)
+  unfolding exported
+  unfinished-leaves = by-cases (λ (x : Called). Leaves (by-message x)) (λ e. refl) (λ e. refl) (λ e. refl) leaves-served
 
 module _ (a : Arrays) (ok : Lent a) (s : Sample) where
   abbrev fed-store : Store

@@ -8,3 +8,5 @@ pub mod Bag552
 pub mod StateBytes
 pub mod Calls
 pub mod Parts
+pub mod Observed
+pub mod Broken

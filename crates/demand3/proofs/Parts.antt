@@ -1,11 +1,11 @@
 -- THE COUNT OF PARTS at the exported calls: a read of L > 4 bytes ends after exactly L/7 parts, rounded up.
-use Prim.Native.Nat.{ℕ, _+_, _/_, _<_}
+use Prim.Native.Nat.{ℕ}
 use mathlib.Core.Path.{_≡_, sym, ap, subst, _∙_}
 use mathlib.Core.Bool.{cond}
 use mathlib.Core.List.{List, [], map}
-use mathlib.Core.Option.{Option, none, some, Option·map}
+use mathlib.Core.Option.{none, some, Option·map}
 use lib.Dec.{eqb}
-use lib.ListN.{length, take}
+use lib.ListN.{take}
 use Rattle.order.specs.Talk.{idle}
 use Rattle.order.specs.Observe.{follow}
 use Rattle.order.specs.Bytes.{heard, reads}
@@ -14,7 +14,7 @@ use Rattle.sdo.specs.Records.{RecordBoard, recordCall, recordTalk, RecordParts,
 use Rattle.sdo.proofs.DemandRecords.{record-finished, record-not-finished}
 use Rattle.board.specs.Gauge.{bag552}
 use Rattle.board.specs.Calls.{power-up-call}
-use Rattle.demand3.specs.Firmware.{Arrays, Exported, to-message, Back, exported, history, final, power-on, line-of, answer-by, Answered, event-of, events, calls-in, board-in, arrays-after, value-got, ReadOpened, ExactParts}
+use Rattle.demand3.specs.Firmware.{Arrays, Exported, to-message, Back, exported, history, final, power-on, line-of, answer-by, Answered, event-of, calls-in, board-in, arrays-after, value-got, ReadOpened, ExactParts}
 use Rattle.demand3.proofs.Bag552.{sound, real-rows}
 use Rattle.demand3.proofs.Calls.{Lent, whole-board, Seen, fine, told, powered-lent}
 

@@ -1,28 +1,24 @@
 -- THE STATE BYTES GIVE BACK WHAT WAS WRITTEN: a record and the trip states are read back, and what stands beside them is left alone.
-use Prim.Native.Nat.{ℕ, _+_, _*_, _/_, _%_, _≤_, _<_}
+use Prim.Native.Nat.{ℕ, _+_, _≤_, _<_}
 use native.Mathlib.Omega.{arith}
 use mathlib.Core.Path.{_≡_, refl, sym, ap, _∙_}
 use mathlib.Core.Logic.{_⊎_, inl, inr}
 use mathlib.Core.Bool.{Bool, true, false, not, or-true}
-use mathlib.Core.List.{List, [], _∷_, _++_, append-assoc}
+use mathlib.Core.List.{List, _++_, append-assoc}
 use lib.Dec.{eqb, leb}
 use lib.ListN.{length, take, drop, length-append, length-drop}
 use lib.Seq.{take-at, drop-at, drop-drop, length-take-le, drop-append-le, take-append-le}
 use borrow.Author.Tests.{le-leb}
 use Rattle.wire.specs.Splice.{splice, apart}
 use Rattle.wire.specs.Little.{little, fromLittle, number}
-use Rattle.wire.proofs.SpliceLaws.{length-splice, part-apart}
+use Rattle.wire.proofs.SpliceLaws.{part-apart}
 use Rattle.wire.proofs.LittleLaws.{length-little, number-apart}
-use Rattle.trip.specs.declared.On.{On}
 use Rattle.trip.specs.declared.Trips.{Trips}
-use Rattle.gauge.specs.Memory.{all-off}
 use Rattle.sdo.specs.declared.Direction.{Direction}
 use Rattle.sdo.specs.declared.Direction.the-variants.{Neither, Reads, Writes}
 use Rattle.sdo.specs.declared.Transfer.{Transfer}
-use Rattle.sdo.specs.Records.{allZero}
 use Rattle.sdo.proofs.RecordLaws.{Whole, Small}
 use Rattle.board.specs.State.{direction-of, direction-byte, bit, is-on, record-at, record-tail, record-bytes, trips-place, trips-at, trips-bytes}
-use Rattle.board.specs.Calls.{dropped}
 
 -- ---- parts of what was written
 

@@ -2,22 +2,21 @@
 -- specs/Calls.antt). THE OBSERVER is given the calls and what they give back, and never the arrays. DEMAND 3 over both. Assumes nothing.
 use Prim.Native.Nat.{ℕ, zero, suc, _+_, _/_, _<_}
 use mathlib.Core.Path.{_≡_}
-use mathlib.Core.Bool.{false, cond}
+use mathlib.Core.Bool.{Bool, false, cond}
 use mathlib.Core.List.{List, [], _∷_, map}
 use mathlib.Core.Option.{Option, none, some, Option·map}
 use lib.Dec.{eqb}
-use lib.Ieee.{Float}
 use lib.ListN.{length, take}
 use Rattle.order.specs.Talk.{idle, openRead, value}
-use Rattle.order.specs.Gauge.{Gauge, results, endOf}
+use Rattle.order.specs.Gauge.{results, endOf}
 use Rattle.order.specs.Observe.{Done, follow}
-use Rattle.order.specs.Promise.{opsOf, gotOf, Right}
+use Rattle.order.specs.Promise.{endsWrite, opsOf, gotOf, Right}
 use Rattle.order.specs.Bytes.{heard, fed, meant, reads, client}
 use Rattle.gauge.specs.Memory.{Store, memory-of, all-off}
 use Rattle.gauge.specs.PowerUp.{fresh-values}
 use Rattle.gauge.specs.Whole.{read-whole}
 use Rattle.sdo.specs.declared.Key.{Key}
-use Rattle.sdo.specs.Eight.{askOf}
+use Rattle.sdo.specs.Eight.{askOf, tellOf}
 use Rattle.sdo.specs.Lines.{gauge, eight, Line, tool, service, twoLines, eightCodec, BoardCall, partsAsked}
 use Rattle.sdo.specs.Records.{RecordBoard, NoReset}
 use Rattle.board.specs.State.{record-at}
@@ -90,6 +89,11 @@ line-of (suc n) = service
 -- 0 is "answered": eight bytes. 5 is "client's abort taken": no answer. Any other number is a refusal and no event
 unfoldable pub answer-by : Back → Option (List ℕ)
 answer-by b = cond (eqb (b .number) 0) (some (take 8 (b .room))) (cond (eqb (b .number) 5) (some []) none)
+
+-- does the observer see this message end a write with yes? A refused call does not
+unfoldable pub ends-write : List ℕ → Option (List ℕ) → Bool
+ends-write m none = false
+ends-write m (some bytes) = endsWrite (askOf m) (tellOf bytes)
 
 -- a call and its answer's bytes, as demand 3 has them. An image is no event
 abbrev pub Answered : Type 0

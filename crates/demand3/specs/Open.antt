@@ -1,4 +1,5 @@
--- One name that opens every definition that a message and a power-up come to, for what is computed: `unfolding opened`. Assumes nothing.
+-- One name that opens every definition that a message and a power-up come to, and one that opens the observer and the plain gauge's
+-- operations, for what is computed: `unfolding opened`. Assumes nothing.
 use lib.Ieee.{lt, isNan, ofBits, ofFields}
 use Rattle.wire.specs.Splice.{splice}
 use Rattle.wire.specs.Little.{little, fromLittle, number}
@@ -19,15 +20,21 @@ use Rattle.gauge.specs.Lock.{guarded, locked}
 use Rattle.gauge.specs.PowerUp.{fresh-values, powered-up}
 use Rattle.gauge.specs.Commands.{status-by, done, obeyed}
 use Rattle.gauge.specs.Whole.{by-type, value-of, read-through, read-whole, first-code, verdict-of, last-checks, effect, accepted, commit-row, with-trips, commit-through, commit-whole, write-sizes}
-use Rattle.order.specs.Gauge.{narrowed, narrow, counted, judged, judgedBy, writeWhole}
+use Rattle.order.specs.Gauge.{narrowed, narrow, counted, judged, judgedBy, writeWhole, readResult, writeResult, written, result, after, results}
+use Rattle.order.specs.Observe.{gainedBy, gain, ended, refusedBy, if-yes, noted, note, onward, readDone, partDone, finished, placed, remember, followOne, follow, observeOne, observe}
+use Rattle.order.specs.Bytes.{client}
 use Rattle.order.specs.Serve.{readOpening, givePart, readPart, conclude, takePart, writeOpening, writePart, serve}
-use Rattle.sdo.specs.Eight.{choice, openingBy, messageOf, asked, askOf, answerOf}
+use Rattle.sdo.specs.Eight.{choice, openingBy, messageOf, asked, askOf, answerOf, abortOf, tellOf}
 use Rattle.sdo.specs.Lines.{eight}
 use Rattle.sdo.specs.Records.{numberOf, allows, counts, pending, view, base, lay, speak}
 use Rattle.board.specs.State.{record-place, direction-of, direction-byte, is-on, record-at, record-tail, record-bytes, trips-at, trips-bytes}
 use Rattle.board.specs.Calls.{sized, number-by, dropped, settled, served, message-call, power-up-call}
-use Rattle.demand3.specs.Firmware.{exported, history, final, power-on}
+use Rattle.demand3.specs.Firmware.{exported, history, final, power-on, line-of, answer-by, event-of, with-event, events, observed}
 
 unfoldable pub opened : Unit {0}
 unfolding lt isNan ofBits ofFields splice little fromLittle number real msb bits num-from num field packed encode decode rows find-from find-row pick held verdict-code first-fault whole-verdict real-verdict by-kind kind-verdict entry-of entry-stored default-of defaulted defaults number-verdict row-verdict enable point-fields point-bits card-bits card-of fields-of layout-verdict level-verdict first-bad point-verdict card-verdict with-point with-card width entry-bits entry-bytes within nv-rows widths saved load-rows values-good rows-good all-zero block-of good storable block-stored loadable loaded gate smallest largest sizes-of command-at word-of read-word status-of with-status same-bytes guarded locked fresh-values powered-up status-by done obeyed by-type value-of read-through read-whole first-code verdict-of last-checks effect accepted commit-row with-trips commit-through commit-whole write-sizes narrowed narrow counted judged judgedBy writeWhole readOpening givePart readPart conclude takePart writeOpening writePart serve choice openingBy messageOf asked askOf answerOf eight numberOf allows counts pending view base lay speak record-place direction-of direction-byte is-on record-at record-tail record-bytes trips-at trips-bytes sized number-by dropped settled served message-call power-up-call exported history final power-on
 opened = tt
+
+unfoldable pub observer-opened : Unit {0}
+unfolding readResult writeResult written result after results gainedBy gain ended refusedBy if-yes noted note onward readDone partDone finished placed remember followOne follow observeOne observe client abortOf tellOf line-of answer-by event-of with-event events observed
+observer-opened = tt

@@ -1,7 +1,7 @@
 -- DEMAND 3 for two lines of eight bytes, and the count of parts: every answer is one that eight bytes carry, so the order on bytes holds.
 use Prim.Native.Nat.{ℕ, _+_, _/_, _≤_, _<_}
 use native.Mathlib.Omega.{arith}
-use mathlib.Core.Path.{_≡_, refl, ap, _∙_}
+use mathlib.Core.Path.{_≡_, refl, ap, _∙_, subst}
 use mathlib.Core.Logic.{_⊎_}
 use mathlib.Core.Bool.{Bool, true, false, cond, not, Bool·beq, _&&_, and-false}
 use mathlib.Core.List.{List, [], _++_, map}
@@ -13,9 +13,9 @@ use Rattle.order.specs.Talk.{Said, announced, unsaid, own, Request, openRead, n
 use Rattle.order.specs.Gauge.{Gauge, tooLong, tooShort, narrow, counted, say, judged, judgedBy, allowed, writeWhole, after}
 use Rattle.order.specs.Serve.{kept, left, Served, over, readOpening, givePart, conclude, takePart, writeOpening, serve, Event, message, step, trace}
 use Rattle.order.specs.Observe.{follow}
-use Rattle.order.specs.Promise.{Ends}
+use Rattle.order.specs.Promise.{endsWrite, Ends}
 use Rattle.order.specs.Bytes.{heard, meant, call, Clear}
-use Rattle.sdo.specs.Eight.{askOf, Code, Carried}
+use Rattle.sdo.specs.Eight.{askOf, tellOf, Code, Carried}
 use Rattle.sdo.specs.Lines.{Entries, gauge, Sound, short, eight, Line, atLine, twoLines, eightCodec, BoardCall, Demand3, TwoBoard, Parts, partsAsked, got}
 use Rattle.sdo.specs.Records.{view, speak}
 use Rattle.sdo.specs.declared.Key.{Key}
@@ -23,7 +23,7 @@ use Rattle.sdo.specs.declared.Transfer.{Transfer}
 use Rattle.sdo.proofs.RoundTrip.{round, answer-eight}
 use Rattle.order.proofs.OnBytes.{serial-bytes, decoded}
 use Rattle.order.proofs.Serial.{own-line}
-use Rattle.order.proofs.Count.{ends}
+use Rattle.order.proofs.Count.{untouched, ends}
 
 long-code : Code tooLong
 long-code = record { fits = omega arith; not-transfer = refl; not-toggle = refl }
@@ -140,6 +140,12 @@ module _ (E : Entries) (S : Sound E) where
   pub spoken-eight : (g : E .Store) (t : Transfer) (m : List ℕ) → ((speak E g t m) .bytes ≡ []) ⊎ (length ((speak E g t m) .bytes) ≡ 8)
   unfolding speak
   spoken-eight g t m = answer-eight _ (carries g (view t) (askOf m))
+
+  -- THEOREM: a message that the client does not see end a write with yes leaves the store
+  pub unfinished : (g : E .Store) (t : Transfer) (m : List ℕ) → endsWrite (askOf m) (tellOf ((speak E g t m) .bytes)) ≡ false → (speak E g t m) .store ≡ g
+  unfolding speak
+  unfinished g t m h =
+      untouched P eight g (view t) (askOf m) (subst (λ (x : Answer Key). endsWrite (askOf m) x ≡ false) (round ((serve P eight g (view t) (askOf m)) .answer) (carries g (view t) (askOf m))) h)
 
   -- a client reads in every answer what the board meant
   clear : Clear P (twoLines idle) (λ l. eight) (λ l. eightCodec)

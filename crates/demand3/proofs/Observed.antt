@@ -1,0 +1,73 @@
+-- WHAT THE OBSERVER SEES in example J and in the coating shop's story: the finished operations with what they got, in their order. Computed.
+use mathlib.Core.Path.{_≡_, refl}
+use mathlib.Core.List.{List, [], _∷_, map}
+use Prim.Native.Nat.{ℕ}
+use lib.ListN.{length, replicate}
+use Rattle.order.specs.Talk.{announced, gave, yes! }
+use Rattle.order.specs.Gauge.{read, write}
+use Rattle.order.specs.Observe.{Done}
+use Rattle.sdo.specs.declared.Key.{Key}
+use Rattle.sdo.specs.Lines.{gauge}
+use Rattle.board.specs.Gauge.{bag552}
+use Rattle.demand3.specs.Firmware.{Exported, to-message, Back, back, history, observed}
+use Rattle.demand3.specs.Open.{opened, observer-opened}
+use Rattle.demand3.proofs.Conversation.{Case, asks, powered}
+use Rattle.demand3.proofs.Examples.{case-J}
+use Rattle.demand3.proofs.CoatingShop.{old-pair, new-pair, saved-before, read-across-load, story}
+
+abbrev seen-in : List Case → List (Done (gauge bag552))
+seen-in cs = observed (history powered (map asks cs))
+
+abbrev entry : ℕ → ℕ → Key
+entry index sub = record { index = index; sub = sub }
+
+abbrev label : Key
+label = entry 0x2001 0
+
+abbrev card : Key
+card = entry 0x2010 0
+
+abbrev did : Key → List ℕ → Done (gauge bag552)
+did k bytes = (write k (announced (length bytes)) bytes, yes!)
+
+abbrev got : Key → List ℕ → Done (gauge bag552)
+got k bytes = (read k, gave bytes)
+
+-- the read that was opened first stands first, with the old label; then the write; then the read of the new one
+pub J-seen : seen-in case-J ≡ got label (replicate 32 0) ∷ did label (replicate 32 0x41) ∷ got label (replicate 32 0x41) ∷ []
+unfolding case-J opened observer-opened
+J-seen = refl
+
+-- the torn read of the card would be no value of any gauge: what is seen is the old pair before the load, the new pair after it
+pub story-seen :
+    seen-in story
+    ≡ did card new-pair ∷
+    did (entry 0xFBF2 1) (0x73 ∷ 0x61 ∷ 0x76 ∷ 0x65 ∷ []) ∷
+    did card old-pair ∷
+    got card old-pair ∷
+    did (entry 0xFBF4 1) (0x6C ∷ 0x6F ∷ 0x61 ∷ 0x64 ∷ []) ∷
+    got card new-pair ∷
+    did card old-pair ∷
+    got card old-pair ∷
+    []
+unfolding story saved-before read-across-load old-pair new-pair opened observer-opened
+story-seen = refl
+
+-- line 2, a room of seven bytes, a message of seven, the client's abort: 3, 2, 1 and 5, the rooms as they were, and no operation
+pub unseen : List Exported
+unseen =
+    to-message 2 (replicate 8 0) (replicate 8 0xEE) ∷
+    to-message 0 (replicate 8 0) (replicate 7 0xEE) ∷
+    to-message 0 (replicate 7 0) (replicate 8 0xEE) ∷
+    to-message 1 (0x80 ∷ replicate 7 0) (replicate 8 0xEE) ∷
+    []
+
+pub unseen-numbers :
+    map (λ (p : Exported × Back). p .1) (history powered unseen)
+    ≡ back 3 (replicate 8 0xEE) ∷ back 2 (replicate 7 0xEE) ∷ back 1 (replicate 8 0xEE) ∷ back 5 (replicate 8 0xEE) ∷ []
+unfolding unseen opened
+unseen-numbers = refl
+
+pub nothing-seen : observed (history powered unseen) ≡ []
+unfolding unseen opened observer-opened
+nothing-seen = refl
