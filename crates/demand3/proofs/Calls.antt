@@ -18,7 +18,7 @@ use Rattle.order.specs.Talk.{idle}
 use Rattle.order.specs.Gauge.{results, endOf}
 use Rattle.order.specs.Observe.{Done}
 use Rattle.order.specs.Promise.{opsOf, gotOf}
-use Rattle.order.specs.Bytes.{heard, client}
+use Rattle.order.specs.Bytes.{heard, fed, client}
 use Rattle.gauge.specs.Memory.{Store, memory-of, all-off}
 use Rattle.gauge.specs.PowerUp.{fresh-values}
 use Rattle.sdo.specs.declared.Message.{Message}
@@ -289,24 +289,39 @@ module _ (a : Arrays) (ok : Lent a) (s : Sample) where
   unfolding sample-call
   sample-is = rw (eq-eqb (length (a .values)) 1024 (ok .memory-sized .values-are), eq-eqb (length (a .state)) 256 (ok .state-is))
 
-  fine-fed : Fine a (to-sample s) (by-sample (a .block) (fed-by fed-store (a .state)))
-  unfolding fed-by sampled event-of recordCall
-  fine-fed =
+  abbrev tripped : Trips
+  tripped = trips-after (a .values) (trips-at (a .state)) (s .pressure) (s .valid)
+
+  -- the arrays that the sample leaves
+  abbrev sampled-arrays : Arrays
+  sampled-arrays =
+      arrays (values-after (a .values) (trips-at (a .state)) (s .pressure) (s .valid) (s .faults) (s .seconds)) (a .block) (splice (a .state) trips-place (trips-bytes tripped))
+
+  sampled-lent : Lent sampled-arrays
+  sampled-lent =
       let n : length (a .state) ≡ 256 = ok .state-is in
-      let t : Trips = trips-after (a .values) (trips-at (a .state)) (s .pressure) (s .valid) in
-      let v : List ℕ = values-after (a .values) (trips-at (a .state)) (s .pressure) (s .valid) (s .faults) (s .seconds) in (
-        record {
-          memory-sized = record {
-            values-are = values-long (a .values) (trips-at (a .state)) (s .pressure) (s .valid) (s .faults) (s .seconds) (ok .memory-sized .values-are);
-            block-is = ok .memory-sized .block-is;
-          };
-          state-is = length-splice (a .state) trips-place (trips-bytes t) (omega (arith, trips-long t)) ∙ n;
-        },
-        ap (λ (b : RecordBoard bag552). (b, []))
-            (boards-same (ap (λ (x : Trips). record { memory = memory-of v (a .block); trips = x }) (sym (trips-back (a .state) t n)))
-            (records-same (sym (record-beside (a .state) trips-place (trips-bytes t) 0 (omega arith) (inr (omega arith))))
-            (sym (record-beside (a .state) trips-place (trips-bytes t) 96 (omega arith) (inr (omega arith)))))),
-      )
+      record {
+        memory-sized = record {
+          values-are = values-long (a .values) (trips-at (a .state)) (s .pressure) (s .valid) (s .faults) (s .seconds) (ok .memory-sized .values-are);
+          block-is = ok .memory-sized .block-is;
+        };
+        state-is = length-splice (a .state) trips-place (trips-bytes tripped) (omega (arith, trips-long tripped)) ∙ n;
+      }
+
+  beside-trips : (at : ℕ) → at + 70 ≤ trips-place → record-at (a .state) at ≡ record-at (sampled-arrays .state) at
+  beside-trips at h = let n : length (a .state) ≡ 256 = ok .state-is in sym (record-beside (a .state) trips-place (trips-bytes tripped) at (omega arith) (inr h))
+
+  -- LAW: a sample is the board's call
+  sample-follows : recordCall bag552 (board-in a) (fed s) ≡ (board-in sampled-arrays, [])
+  unfolding recordCall sampled
+  sample-follows =
+      ap (λ (b : RecordBoard bag552). (b, []))
+      (boards-same (ap (λ (t : Trips). record { memory = store-in sampled-arrays .memory; trips = t }) (sym (trips-back (a .state) tripped (ok .state-is))))
+      (records-same (beside-trips 0 (omega arith)) (beside-trips 96 (omega arith))))
+
+  fine-fed : Fine a (to-sample s) (by-sample (a .block) (fed-by fed-store (a .state)))
+  unfolding fed-by sampled event-of
+  fine-fed = (sampled-lent, sample-follows)
 
 pub fine : (a : Arrays) → Lent a → (c : Exported) → Fine a c (exported a c)
 unfolding exported event-of

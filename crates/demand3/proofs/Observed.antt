@@ -1,17 +1,20 @@
 -- WHAT THE OBSERVER SEES in example J and in the coating shop's story: the finished operations with what they got, in their order. Computed.
 use mathlib.Core.Path.{_≡_, refl}
 use mathlib.Core.List.{List, [], _∷_, map}
+use mathlib.Core.Option.{some}
 use Prim.Native.Nat.{ℕ}
+use native.Mathlib.Omega.{arith}
 use lib.ListN.{length, replicate}
 use Rattle.order.specs.Talk.{announced, gave, yes! }
 use Rattle.order.specs.Gauge.{read, write}
 use Rattle.order.specs.Observe.{Done}
 use Rattle.sdo.specs.declared.Key.{Key}
-use Rattle.sdo.specs.Lines.{gauge}
+use Rattle.sdo.specs.Lines.{gauge, tool}
+use Rattle.sdo.specs.Records.{recordCall}
 use Rattle.board.specs.Gauge.{bag552}
-use Rattle.demand3.specs.Firmware.{Exported, to-message, Back, back, history, observed}
+use Rattle.demand3.specs.Firmware.{Exported, to-message, Back, back, history, observed, arrays-after, value-got, ReadOpened}
 use Rattle.demand3.specs.Open.{opened, observer-opened}
-use Rattle.demand3.proofs.Conversation.{Case, asks, powered}
+use Rattle.demand3.proofs.Conversation.{Case, on, asks, powered}
 use Rattle.demand3.proofs.Examples.{case-J}
 use Rattle.demand3.proofs.CoatingShop.{old-pair, new-pair, saved-before, read-across-load, story}
 
@@ -71,3 +74,35 @@ unseen-numbers = refl
 pub nothing-seen : observed (history powered unseen) ≡ []
 unfolding unseen opened observer-opened
 nothing-seen = refl
+
+-- THE COUNT OF PARTS AT WORK: a label of 32 bytes is opened on line 0; line 1 sets the lock between the parts; five parts end it
+unfoldable pub label-parts : List Case
+label-parts =
+    on 0 (0x60 ∷ []) (0x00 ∷ []) ∷
+    on 1 (0x2F ∷ 0x03 ∷ 0x20 ∷ 0x00 ∷ 0x01 ∷ []) (0x60 ∷ 0x03 ∷ 0x20 ∷ []) ∷
+    on 0 (0x70 ∷ []) (0x10 ∷ []) ∷
+    on 0 (0x60 ∷ []) (0x00 ∷ []) ∷
+    on 0 (0x70 ∷ []) (0x10 ∷ []) ∷
+    on 0 (0x60 ∷ []) (0x07 ∷ []) ∷
+    []
+
+abbrev open-label : List ℕ
+open-label = 0x40 ∷ 0x01 ∷ 0x20 ∷ 0x00 ∷ 0x00 ∷ 0x00 ∷ 0x00 ∷ 0x00 ∷ []
+
+pub label-opened : ReadOpened powered 0 open-label (replicate 8 0) (replicate 32 0) (map asks label-parts)
+unfolding label-parts opened observer-opened recordCall
+label-opened =
+    record {
+      answered = refl;
+      key = label;
+      opens = refl;
+      holds = refl;
+      long = omega arith;
+      right = (refl, (refl, (refl, (refl, (refl, tt)))));
+      calm = (refl, (refl, (refl, (refl, (refl, (refl, tt))))));
+    }
+
+-- exactly five parts: the value is had, and it is the label as it was at the opening
+pub label-finished : value-got tool (history (arrays-after powered 0 open-label (replicate 8 0)) (map asks label-parts)) ≡ some (replicate 32 0)
+unfolding label-parts opened observer-opened
+label-finished = refl
