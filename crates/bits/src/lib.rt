@@ -1,22 +1,11 @@
 // Fields of bits on packed bytes, most significant bit first: bit k is bit 7 - k % 8 of byte k / 8.
+use wire::wide;
 ghost use mathlib.Core.Path.{_≡_};
 ghost use Prim.Native.Nat.{_+_, _-_, _*_, _%_, _^_, _≤_, _<_};
 ghost use lib.ListN.{length, take, drop};
 ghost use Rattle.wire.specs.Splice.{splice};
 ghost use Rattle.bits.specs.Bits.{bits, field, msb, packed, merged};
 ghost use Rattle.bits.specs.Fields.{encode, decode, total, Packable, Narrow};
-
-fn wide(x: u8) -> u32
-    ensures { λ r. ⌜ (r ≡ x) × (r < 2 ^ 8) ⌝ }
-{
-    x as u32
-}
-
-fn wide64(x: u8) -> u64
-    ensures { λ r. ⌜ (r ≡ x) × (r < 256) ⌝ }
-{
-    x as u64
-}
 
 // ---- A field: cut out of the bytes that it touches, at most five.
 
@@ -28,7 +17,7 @@ fn window(s: &[u8], first: usize, last: usize) -> u64
     let mut acc: u64 = 0;
     let mut i = first;
     while i < last {
-        acc = acc * 256 + wide64(s[i]);
+        acc = acc * 256 + wide::to_u64(s[i]);
         i += 1;
     }
     acc
@@ -125,7 +114,7 @@ pub fn put_bytes(s: &mut [u8], at: usize, src: &[u8], from: usize, n: usize)
     let mut left = n;
     let mut a = at;
     while 0 < left {
-        put_field(s, a, 8, wide(src[q]));
+        put_field(s, a, 8, wide::to_u32(src[q]));
         q += 1;
         left -= 1;
         a += 8;

@@ -1,6 +1,7 @@
 // The saved block of the NV entries: whether it is good, storing and loading it.
 use table::ROWS;
 use table::columns;
+use wire::wide;
 ghost use mathlib.Core.Path.{_≡_};
 ghost use mathlib.Core.Bool.{true, cond};
 ghost use Prim.Native.Nat.{_+_, _*_, _^_, _≤_, _<_};
@@ -19,24 +20,6 @@ const LAYOUT: u32 = 1;
 const MODEL: u32 = 1;
 
 // ---- One entry.
-
-fn wide(x: u32) -> u64
-    ensures { λ r. ⌜ (r ≡ x) × (r < 2 ^ 32) ⌝ }
-{
-    x as u64
-}
-
-fn wide8(x: u8) -> usize
-    ensures { λ r. ⌜ r ≡ x ⌝ }
-{
-    x as usize
-}
-
-fn wide16(x: u16) -> usize
-    ensures { λ r. ⌜ r ≡ x ⌝ }
-{
-    x as usize
-}
 
 // The bits that an entry takes.
 fn width_of(kind: u8, len: usize) -> usize
@@ -67,7 +50,7 @@ fn load_entry(block: &[u8], values: &mut [u8], at: usize, kind: u8, len: usize, 
 {
     if kind <= 5 {
         let v = bits::get_field(block, at, width_of(kind, len));
-        wire::put_number(values, place, len, wide(v));
+        wire::put_number(values, place, len, wide::word_to_u64(v));
     } else {
         bits::get_bytes(values, place, len, block, at);
     }
@@ -98,7 +81,7 @@ fn saved_good(block: &[u8], at: usize, row: usize, kind: u8, width: usize) -> bo
     if 5 < kind {
         return true;
     }
-    is_within(row, wide(bits::get_field(block, at, width)))
+    is_within(row, wide::word_to_u64(bits::get_field(block, at, width)))
 }
 
 // ---- All entries: the columns are lent, so that they are laid out once for a whole walk.
@@ -119,8 +102,8 @@ fn save_rows(
     while row < ROWS {
         if marks[row] == 1 {
             let kind = kinds[row];
-            let len = wide8(lens[row]);
-            let place = wide16(places[row]);
+            let len = wide::to_usize(lens[row]);
+            let place = wide::pair_to_usize(places[row]);
             save_entry(values, block, at, kind, len, place);
             at += width_of(kind, len);
         }
@@ -144,8 +127,8 @@ fn load_all(
     while row < ROWS {
         if marks[row] == 1 {
             let kind = kinds[row];
-            let len = wide8(lens[row]);
-            let place = wide16(places[row]);
+            let len = wide::to_usize(lens[row]);
+            let place = wide::pair_to_usize(places[row]);
             load_entry(block, values, at, kind, len, place);
             at += width_of(kind, len);
         }
@@ -162,8 +145,8 @@ fn all_good(marks: &[u8], kinds: &[u8], lens: &[u8], places: &[u16], values: &[u
     while row < ROWS {
         if marks[row] == 1 {
             let kind = kinds[row];
-            let len = wide8(lens[row]);
-            let place = wide16(places[row]);
+            let len = wide::to_usize(lens[row]);
+            let place = wide::pair_to_usize(places[row]);
             if !value_good(values, row, kind, len, place) {
                 return false;
             }
@@ -183,7 +166,7 @@ fn end_of_good(marks: &[u8], kinds: &[u8], lens: &[u8], block: &[u8]) -> usize
     while row < ROWS {
         if marks[row] == 1 {
             let kind = kinds[row];
-            let width = width_of(kind, wide8(lens[row]));
+            let width = width_of(kind, wide::to_usize(lens[row]));
             if !saved_good(block, at, row, kind, width) {
                 return 0;
             }

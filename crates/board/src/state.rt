@@ -3,17 +3,12 @@ use sdo::Direction;
 use sdo::Transfer;
 use trip::On;
 use trip::Trips;
+use wire::wide;
 ghost use mathlib.Core.Path.{_≡_};
 ghost use Prim.Native.Nat.{_+_, _≤_, _<_};
 ghost use lib.ListN.{length};
 ghost use Rattle.wire.specs.Splice.{splice};
 ghost use Rattle.board.specs.State.{record-at, record-tail, record-bytes, trips-place, trips-at, trips-bytes, direction-of, direction-byte, is-on, bit};
-
-fn wide(b: u8) -> usize
-    ensures { λ r. ⌜ r ≡ b ⌝ }
-{
-    b as usize
-}
 
 fn direction_of(n: u8) -> Direction
     ensures { λ r. ⌜ r ≡ direction-of n ⌝ }
@@ -59,8 +54,8 @@ pub fn record_at(state: &[u8], at: usize) -> Transfer
     wire::copy_at(&mut held, 0, state, at, 64);
     let row = wire::number_at(state, at + 64, 2) as usize;
     let direction = direction_of(wire::byte_at(state, at + 66));
-    let len = wide(wire::byte_at(state, at + 67));
-    let place = wide(wire::byte_at(state, at + 68));
+    let len = wide::to_usize(wire::byte_at(state, at + 67));
+    let place = wide::to_usize(wire::byte_at(state, at + 68));
     let toggle = is_on(state, at + 69);
     Transfer {
         held,

@@ -2,6 +2,7 @@
 pub mod limits;
 
 use limits::Verdict;
+use wire::wide;
 ghost use mathlib.Core.Path.{_≡_};
 ghost use Prim.Native.Nat.{_+_, _<_, _≤_};
 ghost use lib.ListN.{length, replicate};
@@ -11,12 +12,6 @@ ghost use Rattle.table.specs.Rows.{rows, row-count, at-row};
 ghost use Rattle.table.specs.Rule.{held};
 ghost use Rattle.entry.specs.Words.{worded, Room};
 ghost use Rattle.entry.specs.Entry.{held-by, entry-of, copied, stored, defaulted, defaults, number-verdict, row-verdict};
-
-fn wide16(x: u16) -> usize
-    ensures { λ r. ⌜ r ≡ x ⌝ }
-{
-    x as usize
-}
 
 // The bytes that an entry has in the values, by its type and length.
 fn held_by(kind: u8, len: usize) -> usize
@@ -124,7 +119,7 @@ fn put_words(values: &mut [u8], places: &[u16], words: &[u32])
 {
     let mut i = 0;
     while i < places.len() {
-        wire::put_word(values, wide16(places[i]), words[i]);
+        wire::put_word(values, wide::pair_to_usize(places[i]), words[i]);
         i += 1;
     }
 }

@@ -1,22 +1,11 @@
 // What a message says.
 use crate::Key;
 use crate::Message;
+use wire::wide;
 ghost use mathlib.Core.Path.{_≡_};
 ghost use Prim.Native.Nat.{_≤_, _<_};
 ghost use lib.ListN.{length};
 ghost use Rattle.sdo.specs.Eight.{bit, keyOf, openingOf, messageOf};
-
-fn wide(b: u8) -> usize
-    ensures { λ r. ⌜ (r ≡ b) × (r < 256) ⌝ }
-{
-    b as usize
-}
-
-fn wide16(b: u8) -> u16
-    ensures { λ r. ⌜ (r ≡ b) × (r < 256) ⌝ }
-{
-    b as u16
-}
 
 pub fn bit_of(weight: u8, b: u8) -> bool
     requires { ⌜ 1 ≤ weight ⌝ }
@@ -29,8 +18,8 @@ pub fn key_of(m: &[u8]) -> Key
     requires { ⌜ length (now m) ≡ 8 ⌝ }
     ensures { λ r. ⌜ r ≡ keyOf (now (m .entry)) ⌝ }
 {
-    let low = wide16(m[1]);
-    let high = wide16(m[2]);
+    let low = wide::to_u16(m[1]);
+    let high = wide::to_u16(m[2]);
     Key {
         index: low + 256 * high,
         sub: m[3],
@@ -45,7 +34,7 @@ pub fn opening_of(m: &[u8]) -> Message
     let first = m[0];
     if bit_of(2, first) {
         if bit_of(1, first) {
-            return Message::WriteSized(key_of(m), 4 - wide(first / 4 % 4));
+            return Message::WriteSized(key_of(m), 4 - wide::to_usize(first / 4 % 4));
         }
         return Message::WriteOwn(key_of(m));
     }
@@ -62,7 +51,11 @@ pub fn message_of(m: &[u8]) -> Message
     let first = m[0];
     let specifier = first / 32;
     match specifier {
-        0 => Message::SendPart(bit_of(16, first), 7 - wide(first / 2 % 8), bit_of(1, first)),
+        0 => Message::SendPart(
+            bit_of(16, first),
+            7 - wide::to_usize(first / 2 % 8),
+            bit_of(1, first),
+        ),
         1 => opening_of(m),
         2 => Message::OpenRead(key_of(m)),
         3 => Message::NextPart(bit_of(16, first)),

@@ -1,26 +1,9 @@
 // The fields of a row, by its number.
 use crate::columns;
+use wire::wide;
 ghost use mathlib.Core.Path.{_≡_};
 ghost use Prim.Native.Nat.{_<_};
 ghost use Rattle.table.specs.Rows.{row-count, at-row};
-
-fn wide8(x: u8) -> usize
-    ensures { λ r. ⌜ r ≡ x ⌝ }
-{
-    x as usize
-}
-
-fn wide16(x: u16) -> usize
-    ensures { λ r. ⌜ r ≡ x ⌝ }
-{
-    x as usize
-}
-
-fn wide32(x: u32) -> u64
-    ensures { λ r. ⌜ r ≡ x ⌝ }
-{
-    x as u64
-}
 
 pub fn index_of(row: usize) -> u16
     requires { ⌜ row < row-count ⌝ }
@@ -61,33 +44,33 @@ pub fn len_of(row: usize) -> usize
     requires { ⌜ row < row-count ⌝ }
     ensures { λ r. ⌜ r ≡ at-row row .len ⌝ }
 {
-    wide8(columns::LEN[row])
+    wide::to_usize(columns::LEN[row])
 }
 
 pub fn place_of(row: usize) -> usize
     requires { ⌜ row < row-count ⌝ }
     ensures { λ r. ⌜ r ≡ at-row row .place ⌝ }
 {
-    wide16(columns::PLACE[row])
+    wide::pair_to_usize(columns::PLACE[row])
 }
 
 pub fn def_of(row: usize) -> u64
     requires { ⌜ row < row-count ⌝ }
     ensures { λ r. ⌜ r ≡ at-row row .def ⌝ }
 {
-    wide32(columns::DEFAULT[row])
+    wide::word_to_u64(columns::DEFAULT[row])
 }
 
 pub fn low_of(row: usize) -> u64
     requires { ⌜ row < row-count ⌝ }
     ensures { λ r. ⌜ r ≡ at-row row .low ⌝ }
 {
-    columns::MINIMUM[wide8(columns::LIMITS[row])]
+    columns::MINIMUM[wide::to_usize(columns::LIMITS[row])]
 }
 
 pub fn high_of(row: usize) -> u64
     requires { ⌜ row < row-count ⌝ }
     ensures { λ r. ⌜ r ≡ at-row row .high ⌝ }
 {
-    columns::MAXIMUM[wide8(columns::LIMITS[row])]
+    columns::MAXIMUM[wide::to_usize(columns::LIMITS[row])]
 }

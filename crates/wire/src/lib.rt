@@ -1,4 +1,6 @@
 // Bytes on the wire: numbers, REAL values and copied parts in lent bytes.
+pub mod wide;
+
 ghost use mathlib.Core.Bool.{false};
 ghost use mathlib.Core.Path.{_≡_};
 ghost use Prim.Native.Nat.{_+_, _≤_, _<_};
@@ -7,18 +9,6 @@ ghost use lib.Ieee.{binary32, ofBits, toBits, isNan};
 ghost use Rattle.wire.specs.Splice.{splice};
 ghost use Rattle.wire.specs.Little.{little, number};
 ghost use Rattle.wire.specs.Real.{real};
-
-fn wide(b: u8) -> u32
-    ensures { λ r. ⌜ (r ≡ b) × (r < 256) ⌝ }
-{
-    b as u32
-}
-
-fn wide64(b: u8) -> u64
-    ensures { λ r. ⌜ (r ≡ b) × (r < 256) ⌝ }
-{
-    b as u64
-}
 
 // ---- whole numbers of any width
 
@@ -30,7 +20,7 @@ pub fn number_at(s: &[u8], at: usize, len: usize) -> u64
     let mut i = len;
     while 0 < i {
         i -= 1;
-        v = v * 256 + wide64(s[at + i]);
+        v = v * 256 + wide::to_u64(s[at + i]);
     }
     v
 }
@@ -68,10 +58,10 @@ pub fn word_at(s: &[u8], at: usize) -> u32
     requires { ⌜ at + 4 ≤ length (now s) ⌝ }
     ensures { λ r. ⌜ r ≡ number (now (s .entry)) at 4 ⌝ }
 {
-    let a = wide(s[at]);
-    let b = wide(s[at + 1]);
-    let c = wide(s[at + 2]);
-    let d = wide(s[at + 3]);
+    let a = wide::to_u32(s[at]);
+    let b = wide::to_u32(s[at + 1]);
+    let c = wide::to_u32(s[at + 2]);
+    let d = wide::to_u32(s[at + 3]);
     a + b * 256 + c * 65536 + d * 16777216
 }
 

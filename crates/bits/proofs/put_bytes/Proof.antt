@@ -21,14 +21,14 @@ abbrev μ-loop : tie.MeasureT-loop
 loop-holds : tie.Need-loop-holds Inv-loop μ-loop
 loop-holds c = (omega arith, omega arith, omega arith, refl, refl)
 
-shared-slice-read-wide : tie.Need-shared-slice-read-wide Inv-loop μ-loop
-shared-slice-read-wide c = omega arith
+shared-slice-read-to-u32 : tie.Need-shared-slice-read-to-u32 Inv-loop μ-loop
+shared-slice-read-to-u32 c = omega arith
 
-wide-requires : tie.Need-wide-requires Inv-loop μ-loop
-wide-requires c κs = omega arith
+to-u32-requires : tie.Need-to-u32-requires Inv-loop μ-loop
+to-u32-requires c κs = omega arith
 
 put-field-requires : tie.Need-put-field-requires Inv-loop μ-loop
-put-field-requires c κs = (omega arith, omega arith, omega arith, c .wide .ensures .1)
+put-field-requires c κs = (omega arith, omega arith, omega arith, c .to-u32 .ensures .1)
 
 add-q : tie.Need-add-q Inv-loop μ-loop
 add-q c = omega arith
@@ -50,7 +50,7 @@ loop-again c =
       omega arith,
       omega arith,
       c .before .before .put-field .kept .0 ∙ l .inv .3,
-      ap (λ (y : List ℕ). splice y (l .a + 8) (bits (take (l .left - 1) (drop (l .q + 1) (a .src .now))))) (c .before .before .put-field .ensures ∙ ap (λ (x : ℕ). splice (bits (l .s)) (l .a) (msb 8 x)) (c .before .before .before .wide .ensures .0))
+      ap (λ (y : List ℕ). splice y (l .a + 8) (bits (take (l .left - 1) (drop (l .q + 1) (a .src .now))))) (c .before .before .put-field .ensures ∙ ap (λ (x : ℕ). splice (bits (l .s)) (l .a) (msb 8 x)) (c .before .before .before .to-u32 .ensures .0))
           ∙ put-turn (bits (l .s)) (a .src .now) (l .a) (l .q) (l .left) (omega arith) (omega arith) (omega (arith, length-bits (l .s)))
           ∙ l .inv .4,
     )
@@ -73,8 +73,8 @@ put-bytes-spec =
     Inv-loop
     μ-loop
     loop-holds
-    shared-slice-read-wide
-    wide-requires
+    shared-slice-read-to-u32
+    to-u32-requires
     put-field-requires
     add-q
     sub-left

@@ -26,17 +26,17 @@ mul-acc c =
     let a = c .before .before .before .args in
     omega (arith, l .inv .2, field-fits (a .s .now) (8 * a .first) (8 * (l .i - a .first)) 32 (omega arith))
 
-shared-slice-read-wide64 : tie.Need-shared-slice-read-wide64 Inv-loop μ-loop
-shared-slice-read-wide64 c = omega arith
+shared-slice-read-to-u64 : tie.Need-shared-slice-read-to-u64 Inv-loop μ-loop
+shared-slice-read-to-u64 c = omega arith
 
-wide64-requires : tie.Need-wide64-requires Inv-loop μ-loop
-wide64-requires c κs = omega arith
+to-u64-requires : tie.Need-to-u64-requires Inv-loop μ-loop
+to-u64-requires c κs = omega arith
 
 add-acc : tie.Need-add-acc Inv-loop μ-loop
 add-acc c =
     let l = c .before .before .before .loop in
     let a = c .before .before .before .before .before .args in
-    omega (arith, l .inv .2, field-fits (a .s .now) (8 * a .first) (8 * (l .i - a .first)) 32 (omega arith), c .wide64 .ensures)
+    omega (arith, l .inv .2, field-fits (a .s .now) (8 * a .first) (8 * (l .i - a .first)) 32 (omega arith), c .to-u64 .ensures)
 
 add-i : tie.Need-add-i Inv-loop μ-loop
 add-i c = omega arith
@@ -48,7 +48,7 @@ loop-again : tie.Need-loop-again Inv-loop μ-loop
 loop-again c =
     let l = c .before .before .before .loop in
     let a = c .before .before .before .before .before .args in
-    (omega arith, omega arith, window-turn (a .s .now) (a .first) (l .i) (l .acc) (c .wide64 .result) (omega arith) (omega arith) (l .inv .2) (c .wide64 .ensures .0) (c .wide64 .ensures .1))
+    (omega arith, omega arith, window-turn (a .s .now) (a .first) (l .i) (l .acc) (c .to-u64 .result) (omega arith) (omega arith) (l .inv .2) (c .to-u64 .ensures .0) (c .to-u64 .ensures .1))
 
 returns : tie.Need-returns Inv-loop μ-loop
 returns c =
@@ -64,8 +64,8 @@ window-spec =
     μ-loop
     loop-holds
     mul-acc
-    shared-slice-read-wide64
-    wide64-requires
+    shared-slice-read-to-u64
+    to-u64-requires
     add-acc
     add-i
     loop-less

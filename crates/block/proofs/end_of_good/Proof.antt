@@ -33,35 +33,35 @@ shared-slice-read-if1 c = let a = c .before .before .before .before .before .bef
 shared-slice-read-kind : tie.Need-shared-slice-read-kind Inv-loop μ-loop
 shared-slice-read-kind c = let a = c .before .before .before .before .before .before .before .before .before .args in omega (arith, long (a .marks .now) (a .kinds .now) (a .lens .now) (c .before .before .before .before .before .before .before .before .before .pre .0))
 
-shared-slice-read-wide8 : tie.Need-shared-slice-read-wide8 Inv-loop μ-loop
-shared-slice-read-wide8 c = let a = c .before .before .before .before .before .before .before .before .before .before .args in omega (arith, long (a .marks .now) (a .kinds .now) (a .lens .now) (c .before .before .before .before .before .before .before .before .before .before .pre .0))
+shared-slice-read-to-usize : tie.Need-shared-slice-read-to-usize Inv-loop μ-loop
+shared-slice-read-to-usize c = let a = c .before .before .before .before .before .before .before .before .before .before .args in omega (arith, long (a .marks .now) (a .kinds .now) (a .lens .now) (c .before .before .before .before .before .before .before .before .before .before .pre .0))
 
-wide8-requires : tie.Need-wide8-requires Inv-loop μ-loop
-wide8-requires c κs = omega arith
+to-usize-requires : tie.Need-to-usize-requires Inv-loop μ-loop
+to-usize-requires c κs = omega arith
 
 width-of-requires : tie.Need-width-of-requires Inv-loop μ-loop
 width-of-requires c κs =
     let a = c .before .before .before .before .before .before .before .before .before .before .before .args in
-    let g = here (a .marks .now) (a .kinds .now) (a .lens .now) (c .before .before .before .before .before .before .before .before .before .before .before .pre .0) (c .before .before .before .before .before .before .loop .row) (omega arith) (c .before .before .before .if1 .taken) (c .wide8 .ensures) refl in
+    let g = here (a .marks .now) (a .kinds .now) (a .lens .now) (c .before .before .before .before .before .before .before .before .before .before .before .pre .0) (c .before .before .before .before .before .before .loop .row) (omega arith) (c .before .before .before .if1 .taken) (c .to-usize .ensures .0) refl in
     sized g .most
 
 saved-good-requires : tie.Need-saved-good-requires Inv-loop μ-loop
 saved-good-requires c κs =
     let a = c .before .before .before .before .before .before .before .before .before .before .before .before .args in
-    let g = here (a .marks .now) (a .kinds .now) (a .lens .now) (c .before .before .before .before .before .before .before .before .before .before .before .before .pre .0) (c .before .before .before .before .before .before .before .loop .row) (omega arith) (c .before .before .before .before .if1 .taken) (c .before .wide8 .ensures) refl in
-    let m = width-most (getD (a .kinds .now) (c .before .before .before .before .before .before .before .loop .row) 0) (c .before .wide8 .result) (sized g .some) in
+    let g = here (a .marks .now) (a .kinds .now) (a .lens .now) (c .before .before .before .before .before .before .before .before .before .before .before .before .pre .0) (c .before .before .before .before .before .before .before .loop .row) (omega arith) (c .before .before .before .before .if1 .taken) (c .before .to-usize .ensures .0) refl in
+    let m = width-most (getD (a .kinds .now) (c .before .before .before .before .before .before .before .loop .row) 0) (c .before .to-usize .result) (sized g .some) in
     (omega arith, g .kind-is, (λ h. omega (arith, c .width-of .ensures, sized g .short h)), c .before .before .before .before .before .before .before .before .before .before .before .before .pre .1, omega (arith, c .width-of .ensures, width-next g, used))
 
 returns : tie.Need-returns Inv-loop μ-loop
 returns c =
     let a = c .before .before .before .before .before .before .before .before .before .before .before .before .before .before .args in
-    let g = here (a .marks .now) (a .kinds .now) (a .lens .now) (c .before .before .before .before .before .before .before .before .before .before .before .before .before .before .pre .0) (c .before .before .before .before .before .before .before .before .before .loop .row) (omega arith) (c .before .before .before .before .before .before .if1 .taken) (c .before .before .before .wide8 .ensures) refl in
+    let g = here (a .marks .now) (a .kinds .now) (a .lens .now) (c .before .before .before .before .before .before .before .before .before .before .before .before .before .before .pre .0) (c .before .before .before .before .before .before .before .before .before .loop .row) (omega arith) (c .before .before .before .before .before .before .if1 .taken) (c .before .before .before .to-usize .ensures .0) refl in
     sym (ap (λ (b : Bool). cond b (8 + widths nv) 0) (sym (c .before .before .before .before .before .before .before .before .before .loop .inv .2) ∙ rows-turn g (bits (a .block .now)) (c .before .before .before .before .before .before .before .before .before .loop .at) (c .before .before .width-of .result) (c .before .before .width-of .ensures) (c .before .saved-good .ensures) (not-true (c .before .saved-good .result) (c .if2 .taken))))
 
 add-at : tie.Need-add-at Inv-loop μ-loop
 add-at c =
     let a = c .before .before .before .before .before .before .before .before .before .before .before .before .before .before .args in
-    let g = here (a .marks .now) (a .kinds .now) (a .lens .now) (c .before .before .before .before .before .before .before .before .before .before .before .before .before .before .pre .0) (c .before .before .before .before .before .before .before .before .before .loop .row) (omega arith) (c .before .before .before .before .before .before .if1 .taken) (c .before .before .before .wide8 .ensures) refl in
+    let g = here (a .marks .now) (a .kinds .now) (a .lens .now) (c .before .before .before .before .before .before .before .before .before .before .before .before .before .before .pre .0) (c .before .before .before .before .before .before .before .before .before .loop .row) (omega arith) (c .before .before .before .before .before .before .if1 .taken) (c .before .before .before .to-usize .ensures .0) refl in
     omega (arith, c .before .before .width-of .ensures, width-next g, used)
 
 add-row : tie.Need-add-row Inv-loop μ-loop
@@ -76,7 +76,7 @@ loop-again c =
     let l = c .before .before .before .loop in
     ⊎-elim
     (λ w.
-    let g = here (a .marks .now) (a .kinds .now) (a .lens .now) (c .before .before .before .before .before .before .before .before .pre .0) (l .row) (omega arith) (w .0 .taken) (w .3 .ensures) refl in (
+    let g = here (a .marks .now) (a .kinds .now) (a .lens .now) (c .before .before .before .before .before .before .before .before .pre .0) (l .row) (omega arith) (w .0 .taken) (w .3 .ensures .0) refl in (
       omega arith,
       omega (arith, w .7, w .4 .ensures, width-next g),
       (rw (w .7) (sym (rows-turn g (bits (a .block .now)) (l .at) (w .4 .result) (w .4 .ensures) (w .5 .ensures) (not-false (w .5 .result) (w .6 .left))))) ∙ l .inv .2,
@@ -102,8 +102,8 @@ end-of-good-spec =
     loop-holds
     shared-slice-read-if1
     shared-slice-read-kind
-    shared-slice-read-wide8
-    wide8-requires
+    shared-slice-read-to-usize
+    to-usize-requires
     width-of-requires
     saved-good-requires
     returns

@@ -18,8 +18,8 @@ get-field-requires c κs =
     let w = width-most (a .kind) (a .len) (c .before .before .before .before .pre .0 .some) in
     (omega (arith, c .width-of .ensures), omega arith, omega (arith, c .width-of .ensures, c .before .before .before .before .pre .0 .short (omega arith)))
 
-wide-requires : tie.Need-wide-requires
-wide-requires c κs = search needs
+word-to-u64-requires : tie.Need-word-to-u64-requires
+word-to-u64-requires c κs = search needs
 
 put-number-requires : tie.Need-put-number-requires
 put-number-requires c κs = search needs
@@ -37,7 +37,7 @@ returns : tie.Need-returns
 unfolding field
 returns c =
     let a = c .before .before .before .before .before .before .before .before .before .before .args in
-    c .before .before .put-number .ensures ∙ ap (splice (a .values .now) (a .place)) (rw (c .before .before .before .wide .ensures .0, c .before .before .before .before .before .get-field .ensures, c .before .before .before .before .before .before .width-of .ensures) (sym (bytes-number (a .kind) (a .len) (drop (a .at) (bits (a .block .now))) (omega arith))))
+    c .before .before .put-number .ensures ∙ ap (splice (a .values .now) (a .place)) (rw (c .before .before .before .word-to-u64 .ensures .0, c .before .before .before .before .before .get-field .ensures, c .before .before .before .before .before .before .width-of .ensures) (sym (bytes-number (a .kind) (a .len) (drop (a .at) (bits (a .block .now))) (omega arith))))
 
 same-length-2 : tie.Need-same-length-2
 same-length-2 c = search needs
@@ -53,7 +53,7 @@ load-entry-spec =
     (tie.spec
     width-of-requires
     get-field-requires
-    wide-requires
+    word-to-u64-requires
     put-number-requires
     get-bytes-requires
     same-length

@@ -33,37 +33,37 @@ shared-slice-read-if1 c = let a = c .before .before .before .before .before .bef
 shared-slice-read-kind : tie.Need-shared-slice-read-kind Inv-loop μ-loop
 shared-slice-read-kind c = let a = c .before .before .before .before .before .before .before .before .before .before .before .args in omega (arith, long (a .marks .now) (a .kinds .now) (a .lens .now) (c .before .before .before .before .before .before .before .before .before .before .before .pre .0 .marked))
 
-shared-slice-read-wide8 : tie.Need-shared-slice-read-wide8 Inv-loop μ-loop
-shared-slice-read-wide8 c = let a = c .before .before .before .before .before .before .before .before .before .before .before .before .args in omega (arith, long (a .marks .now) (a .kinds .now) (a .lens .now) (c .before .before .before .before .before .before .before .before .before .before .before .before .pre .0 .marked))
+shared-slice-read-to-usize : tie.Need-shared-slice-read-to-usize Inv-loop μ-loop
+shared-slice-read-to-usize c = let a = c .before .before .before .before .before .before .before .before .before .before .before .before .args in omega (arith, long (a .marks .now) (a .kinds .now) (a .lens .now) (c .before .before .before .before .before .before .before .before .before .before .before .before .pre .0 .marked))
 
-wide8-requires : tie.Need-wide8-requires Inv-loop μ-loop
-wide8-requires c κs = omega arith
+to-usize-requires : tie.Need-to-usize-requires Inv-loop μ-loop
+to-usize-requires c κs = omega arith
 
-mul-wide16 : tie.Need-mul-wide16 Inv-loop μ-loop
-mul-wide16 c = let a = c .before .before .before .before .before .before .before .before .before .before .before .before .before .args in omega (arith, places-long (a .marks .now) (a .kinds .now) (a .lens .now) (a .places .now) (c .before .before .before .before .before .before .before .before .before .before .before .before .before .pre .0))
+mul-pair-to-usize : tie.Need-mul-pair-to-usize Inv-loop μ-loop
+mul-pair-to-usize c = let a = c .before .before .before .before .before .before .before .before .before .before .before .before .before .args in omega (arith, places-long (a .marks .now) (a .kinds .now) (a .lens .now) (a .places .now) (c .before .before .before .before .before .before .before .before .before .before .before .before .before .pre .0))
 
-shared-slice-read-wide16 : tie.Need-shared-slice-read-wide16 Inv-loop μ-loop
-shared-slice-read-wide16 c = let a = c .before .before .before .before .before .before .before .before .before .before .before .before .before .before .args in omega (arith, places-long (a .marks .now) (a .kinds .now) (a .lens .now) (a .places .now) (c .before .before .before .before .before .before .before .before .before .before .before .before .before .before .pre .0))
+shared-slice-read-pair-to-usize : tie.Need-shared-slice-read-pair-to-usize Inv-loop μ-loop
+shared-slice-read-pair-to-usize c = let a = c .before .before .before .before .before .before .before .before .before .before .before .before .before .before .args in omega (arith, places-long (a .marks .now) (a .kinds .now) (a .lens .now) (a .places .now) (c .before .before .before .before .before .before .before .before .before .before .before .before .before .before .pre .0))
 
-wide16-requires : tie.Need-wide16-requires Inv-loop μ-loop
-wide16-requires c κs = omega arith
+pair-to-usize-requires : tie.Need-pair-to-usize-requires Inv-loop μ-loop
+pair-to-usize-requires c κs = omega arith
 
 save-entry-requires : tie.Need-save-entry-requires Inv-loop μ-loop
 save-entry-requires c κs =
     let a = c .before .before .before .before .before .before .before .before .before .before .before .before .before .before .before .before .args in
-    let g = entry-here (a .marks .now) (a .kinds .now) (a .lens .now) (a .places .now) (c .before .before .before .before .before .before .before .before .before .before .before .before .before .before .before .before .pre .0) (c .before .before .before .before .before .before .before .before .before .loop .row) (omega arith) (c .before .before .before .before .before .before .if1 .taken) (c .before .before .before .wide8 .ensures) (c .before .wide16 .ensures) in
+    let g = entry-here (a .marks .now) (a .kinds .now) (a .lens .now) (a .places .now) (c .before .before .before .before .before .before .before .before .before .before .before .before .before .before .before .before .pre .0) (c .before .before .before .before .before .before .before .before .before .loop .row) (omega arith) (c .before .before .before .before .before .before .if1 .taken) (c .before .before .before .to-usize .ensures .0) (c .before .pair-to-usize .ensures .0) in
     (sized g, c .before .before .before .before .before .before .before .before .before .before .before .before .before .before .before .before .pre .1, c .before .before .before .before .before .before .before .before .before .loop .inv .1, omega (arith, width-next g, used), fits-turn g (a .values .now) (λ k. (c .before .before .before .before .before .before .before .before .before .before .before .shared-slice-known5 .given k) .fits) (c .before .before .before .before .before .before .before .before .before .loop .inv .3) .0)
 
 width-of-requires : tie.Need-width-of-requires Inv-loop μ-loop
 width-of-requires c κs =
     let a = c .before .before .before .before .before .before .before .before .before .before .before .before .before .before .before .before .before .before .before .args in
-    let g = entry-here (a .marks .now) (a .kinds .now) (a .lens .now) (a .places .now) (c .before .before .before .before .before .before .before .before .before .before .before .before .before .before .before .before .before .before .before .pre .0) (c .before .before .before .before .before .before .before .before .before .before .before .before .loop .row) (omega arith) (c .before .before .before .before .before .before .before .before .before .if1 .taken) (c .before .before .before .before .before .before .wide8 .ensures) (c .before .before .before .before .wide16 .ensures) in
+    let g = entry-here (a .marks .now) (a .kinds .now) (a .lens .now) (a .places .now) (c .before .before .before .before .before .before .before .before .before .before .before .before .before .before .before .before .before .before .before .pre .0) (c .before .before .before .before .before .before .before .before .before .before .before .before .loop .row) (omega arith) (c .before .before .before .before .before .before .before .before .before .if1 .taken) (c .before .before .before .before .before .before .to-usize .ensures .0) (c .before .before .before .before .pair-to-usize .ensures .0) in
     sized g .most
 
 add-at : tie.Need-add-at Inv-loop μ-loop
 add-at c =
     let a = c .before .before .before .before .before .before .before .before .before .before .before .before .before .before .before .before .before .before .before .before .args in
-    let g = entry-here (a .marks .now) (a .kinds .now) (a .lens .now) (a .places .now) (c .before .before .before .before .before .before .before .before .before .before .before .before .before .before .before .before .before .before .before .before .pre .0) (c .before .before .before .before .before .before .before .before .before .before .before .before .before .loop .row) (omega arith) (c .before .before .before .before .before .before .before .before .before .before .if1 .taken) (c .before .before .before .before .before .before .before .wide8 .ensures) (c .before .before .before .before .before .wide16 .ensures) in
+    let g = entry-here (a .marks .now) (a .kinds .now) (a .lens .now) (a .places .now) (c .before .before .before .before .before .before .before .before .before .before .before .before .before .before .before .before .before .before .before .before .pre .0) (c .before .before .before .before .before .before .before .before .before .before .before .before .before .loop .row) (omega arith) (c .before .before .before .before .before .before .before .before .before .before .if1 .taken) (c .before .before .before .before .before .before .before .to-usize .ensures .0) (c .before .before .before .before .before .pair-to-usize .ensures .0) in
     omega (arith, c .width-of .ensures, width-next g, used)
 
 add-row : tie.Need-add-row Inv-loop μ-loop
@@ -78,7 +78,7 @@ loop-again c =
     let l = c .before .before .before .loop in
     ⊎-elim
     (λ w.
-    let g = entry-here (a .marks .now) (a .kinds .now) (a .lens .now) (a .places .now) (c .before .before .before .before .before .before .before .before .before .before .pre .0) (l .row) (omega arith) (w .0 .taken) (w .3 .ensures) (w .5 .ensures) in (
+    let g = entry-here (a .marks .now) (a .kinds .now) (a .lens .now) (a .places .now) (c .before .before .before .before .before .before .before .before .before .before .pre .0) (l .row) (omega arith) (w .0 .taken) (w .3 .ensures .0) (w .5 .ensures .0) in (
       omega arith,
       ap length (w .11) ∙ w .7 .kept .1 .0 ∙ l .inv .1,
       omega (arith, w .12, w .10 .ensures, width-next g),
@@ -109,11 +109,11 @@ save-rows-spec =
     loop-holds
     shared-slice-read-if1
     shared-slice-read-kind
-    shared-slice-read-wide8
-    wide8-requires
-    mul-wide16
-    shared-slice-read-wide16
-    wide16-requires
+    shared-slice-read-to-usize
+    to-usize-requires
+    mul-pair-to-usize
+    shared-slice-read-pair-to-usize
+    pair-to-usize-requires
     save-entry-requires
     width-of-requires
     add-at

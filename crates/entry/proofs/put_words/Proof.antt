@@ -18,14 +18,14 @@ abbrev μ-loop : tie.MeasureT-loop
 loop-holds : tie.Need-loop-holds Inv-loop μ-loop
 loop-holds c = (omega arith, refl, refl)
 
-mul-wide16 : tie.Need-mul-wide16 Inv-loop μ-loop
-mul-wide16 c = search needs
+mul-pair-to-usize : tie.Need-mul-pair-to-usize Inv-loop μ-loop
+mul-pair-to-usize c = search needs
 
-shared-slice-read-wide16 : tie.Need-shared-slice-read-wide16 Inv-loop μ-loop
-shared-slice-read-wide16 c = search needs
+shared-slice-read-pair-to-usize : tie.Need-shared-slice-read-pair-to-usize Inv-loop μ-loop
+shared-slice-read-pair-to-usize c = search needs
 
-wide16-requires : tie.Need-wide16-requires Inv-loop μ-loop
-wide16-requires c κs = tt
+pair-to-usize-requires : tie.Need-pair-to-usize-requires Inv-loop μ-loop
+pair-to-usize-requires c κs = tt
 
 mul-put-word : tie.Need-mul-put-word Inv-loop μ-loop
 mul-put-word c = search needs
@@ -39,7 +39,7 @@ put-word-requires : tie.Need-put-word-requires Inv-loop μ-loop
 put-word-requires c κs =
     let b = c .before .before .before .before .before .before .before .before .before in
     let l = c .before .before .before .before .before .loop in
-    omega (arith, c .before .wide16 .ensures, l .inv .1, b .pre .inside (l .i) (omega arith))
+    omega (arith, c .before .pair-to-usize .ensures .0, l .inv .1, b .pre .inside (l .i) (omega arith))
 
 add-i : tie.Need-add-i Inv-loop μ-loop
 add-i c = search needs
@@ -54,7 +54,7 @@ loop-again c =
     let b = w .before .before .before .before .before .before .before .before .before in (
       omega arith,
       c .before .before .put-word .kept .0 ∙ l .inv .1,
-      words-turn (b .args .places .now) (b .args .words .now) (b .pre .alike) (l .i) (l .values) (omega arith) (w .before .wide16 .ensures) refl (c .before .before .put-word .ensures) ∙ l .inv .2,
+      words-turn (b .args .places .now) (b .args .words .now) (b .pre .alike) (l .i) (l .values) (omega arith) (w .before .pair-to-usize .ensures .0) refl (c .before .before .put-word .ensures) ∙ l .inv .2,
     )
 
 same-length : tie.Need-same-length Inv-loop μ-loop
@@ -73,9 +73,9 @@ put-words-spec =
     Inv-loop
     μ-loop
     loop-holds
-    mul-wide16
-    shared-slice-read-wide16
-    wide16-requires
+    mul-pair-to-usize
+    shared-slice-read-pair-to-usize
+    pair-to-usize-requires
     mul-put-word
     shared-slice-read-put-word
     put-word-requires

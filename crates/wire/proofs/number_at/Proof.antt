@@ -26,14 +26,14 @@ mul-v c =
     let b = narrow (c .before .before .before .args .len - w .i) (w .v) (omega arith) (w .inv .1 .1) in
     omega arith
 
-add-wide64 : tie.Need-add-wide64 Inv-loop μ-loop
-add-wide64 c = omega arith
+add-to-u64 : tie.Need-add-to-u64 Inv-loop μ-loop
+add-to-u64 c = omega arith
 
-shared-slice-read-wide64 : tie.Need-shared-slice-read-wide64 Inv-loop μ-loop
-shared-slice-read-wide64 c = omega arith
+shared-slice-read-to-u64 : tie.Need-shared-slice-read-to-u64 Inv-loop μ-loop
+shared-slice-read-to-u64 c = omega arith
 
-wide64-requires : tie.Need-wide64-requires Inv-loop μ-loop
-wide64-requires c κs = omega arith
+to-u64-requires : tie.Need-to-u64-requires Inv-loop μ-loop
+to-u64-requires c κs = omega arith
 
 add-v : tie.Need-add-v Inv-loop μ-loop
 add-v c =
@@ -49,7 +49,7 @@ loop-again c =
     let a = c .before .before .before .before .before .args in
     let w = c .before .before .before .loop in
     let h = c .before .before .loop-test .taken in
-    let b = c .wide64 in (
+    let b = c .to-u64 in (
       omega arith,
       (
         number-turn (now (a .s)) (a .at) (a .len) (w .i) (w .v) (b .result) h (w .inv .0) (w .inv .1 .0) (b .ensures .0),
@@ -72,9 +72,9 @@ number-at-spec =
     loop-holds
     sub-i
     mul-v
-    add-wide64
-    shared-slice-read-wide64
-    wide64-requires
+    add-to-u64
+    shared-slice-read-to-u64
+    to-u64-requires
     add-v
     loop-less
     loop-again

@@ -5,38 +5,38 @@ use Rattle.wire.proofs.Stores.{four-bytes}
 use Rattle.wire.proofs.word_at.Statement.{statement}
 use Rattle.wire.proofs.word_at.Tie as tie
 
-shared-slice-read-wide : tie.Need-shared-slice-read-wide
-shared-slice-read-wide c = search needs
+shared-slice-read-to-u32 : tie.Need-shared-slice-read-to-u32
+shared-slice-read-to-u32 c = search needs
 
-wide-requires : tie.Need-wide-requires
-wide-requires c κs = search needs
+to-u32-requires : tie.Need-to-u32-requires
+to-u32-requires c κs = search needs
 
-add-wide : tie.Need-add-wide
-add-wide c = search needs
+add-to-u32 : tie.Need-add-to-u32
+add-to-u32 c = search needs
 
-shared-slice-read-wide-2 : tie.Need-shared-slice-read-wide-2
-shared-slice-read-wide-2 c = search needs
+shared-slice-read-to-u32-2 : tie.Need-shared-slice-read-to-u32-2
+shared-slice-read-to-u32-2 c = search needs
 
-wide-requires-2 : tie.Need-wide-requires-2
-wide-requires-2 c κs = search needs
+to-u32-requires-2 : tie.Need-to-u32-requires-2
+to-u32-requires-2 c κs = search needs
 
-add-wide-2 : tie.Need-add-wide-2
-add-wide-2 c = search needs
+add-to-u32-2 : tie.Need-add-to-u32-2
+add-to-u32-2 c = search needs
 
-shared-slice-read-wide-3 : tie.Need-shared-slice-read-wide-3
-shared-slice-read-wide-3 c = search needs
+shared-slice-read-to-u32-3 : tie.Need-shared-slice-read-to-u32-3
+shared-slice-read-to-u32-3 c = search needs
 
-wide-requires-3 : tie.Need-wide-requires-3
-wide-requires-3 c κs = search needs
+to-u32-requires-3 : tie.Need-to-u32-requires-3
+to-u32-requires-3 c κs = search needs
 
-add-wide-3 : tie.Need-add-wide-3
-add-wide-3 c = search needs
+add-to-u32-3 : tie.Need-add-to-u32-3
+add-to-u32-3 c = search needs
 
-shared-slice-read-wide-4 : tie.Need-shared-slice-read-wide-4
-shared-slice-read-wide-4 c = search needs
+shared-slice-read-to-u32-4 : tie.Need-shared-slice-read-to-u32-4
+shared-slice-read-to-u32-4 c = search needs
 
-wide-requires-4 : tie.Need-wide-requires-4
-wide-requires-4 c κs = search needs
+to-u32-requires-4 : tie.Need-to-u32-requires-4
+to-u32-requires-4 c κs = search needs
 
 mul-result : tie.Need-mul-result
 mul-result c = search needs
@@ -63,17 +63,17 @@ pub word-at-spec : {M : Type 1} → statement M
 word-at-spec =
     tie.close
     (tie.spec
-    shared-slice-read-wide
-    wide-requires
-    add-wide
-    shared-slice-read-wide-2
-    wide-requires-2
-    add-wide-2
-    shared-slice-read-wide-3
-    wide-requires-3
-    add-wide-3
-    shared-slice-read-wide-4
-    wide-requires-4
+    shared-slice-read-to-u32
+    to-u32-requires
+    add-to-u32
+    shared-slice-read-to-u32-2
+    to-u32-requires-2
+    add-to-u32-2
+    shared-slice-read-to-u32-3
+    to-u32-requires-3
+    add-to-u32-3
+    shared-slice-read-to-u32-4
+    to-u32-requires-4
     mul-result
     add-result
     mul-result-2

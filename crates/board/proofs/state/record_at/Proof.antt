@@ -33,8 +33,8 @@ add-byte-at-2 c = search needs
 byte-at-requires-2 : tie.Need-byte-at-requires-2
 byte-at-requires-2 c κs = search needs
 
-wide-requires : tie.Need-wide-requires
-wide-requires c κs = search needs
+to-usize-requires : tie.Need-to-usize-requires
+to-usize-requires c κs = search needs
 
 add-byte-at-3 : tie.Need-add-byte-at-3
 add-byte-at-3 c = search needs
@@ -42,8 +42,8 @@ add-byte-at-3 c = search needs
 byte-at-requires-3 : tie.Need-byte-at-requires-3
 byte-at-requires-3 c κs = search needs
 
-wide-requires-2 : tie.Need-wide-requires-2
-wide-requires-2 c κs = search needs
+to-usize-requires-2 : tie.Need-to-usize-requires-2
+to-usize-requires-2 c κs = search needs
 
 add-is-on : tie.Need-add-is-on
 add-is-on c = search needs
@@ -54,7 +54,7 @@ is-on-requires c κs = search needs
 returns : tie.Need-returns
 returns c =
     let s = c .before .before .before .before .before .before .before .before .before .before .before .before in
-    record-read (s .args .state .now) (s .args .at) (s .pre) (c .before .before .before .before .before .before .before .before .before .copy-at .ensures) (c .before .before .before .before .before .before .before .number-at .ensures) (c .before .before .before .before .before .direction-of .ensures ∙ ap direction-of (c .before .before .before .before .before .before .byte-at .ensures)) (c .before .before .before .wide .ensures ∙ c .before .before .before .before .byte-at2 .ensures) (c .before .wide2 .ensures ∙ c .before .before .byte-at3 .ensures) (c .is-on .ensures)
+    record-read (s .args .state .now) (s .args .at) (s .pre) (c .before .before .before .before .before .before .before .before .before .copy-at .ensures) (c .before .before .before .before .before .before .before .number-at .ensures) (c .before .before .before .before .before .direction-of .ensures ∙ ap direction-of (c .before .before .before .before .before .before .byte-at .ensures)) (c .before .before .before .to-usize .ensures .0 ∙ c .before .before .before .before .byte-at2 .ensures) (c .before .to-usize2 .ensures .0 ∙ c .before .before .byte-at3 .ensures) (c .is-on .ensures)
 
 pub record-at-spec : {M : Type 1} → statement M
 record-at-spec =
@@ -69,10 +69,10 @@ record-at-spec =
     direction-of-requires
     add-byte-at-2
     byte-at-requires-2
-    wide-requires
+    to-usize-requires
     add-byte-at-3
     byte-at-requires-3
-    wide-requires-2
+    to-usize-requires-2
     add-is-on
     is-on-requires
     returns)

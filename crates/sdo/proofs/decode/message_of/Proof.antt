@@ -15,8 +15,8 @@ shared-slice-read-first c = search needs
 bit-of-requires : tie.Need-bit-of-requires
 bit-of-requires c κs = search needs
 
-wide-requires : tie.Need-wide-requires
-wide-requires c κs = search needs
+to-usize-requires : tie.Need-to-usize-requires
+to-usize-requires c κs = search needs
 
 sub-t11 : tie.Need-sub-t11
 sub-t11 c = search needs
@@ -35,7 +35,7 @@ bit-of-requires-3 c κs = search needs
 
 returns : tie.Need-returns
 unfolding messageOf choice
-returns c = rw (c .before .before .before .match .keys1, c .before .before .bit-of .ensures, c .before .wide .ensures .0, c .bit-of2 .ensures)
+returns c = rw (c .before .before .before .match .keys1, c .before .before .bit-of .ensures, c .before .to-usize .ensures .0, c .bit-of2 .ensures)
 
 returns-2 : tie.Need-returns-2
 unfolding messageOf choice
@@ -67,7 +67,7 @@ message-of-spec =
     (tie.spec
     shared-slice-read-first
     bit-of-requires
-    wide-requires
+    to-usize-requires
     sub-t11
     bit-of-requires-2
     opening-of-requires

@@ -17,15 +17,15 @@ bit-of-requires-2 c κs = search needs
 key-of-requires : tie.Need-key-of-requires
 key-of-requires c κs = search needs
 
-wide-requires : tie.Need-wide-requires
-wide-requires c κs = search needs
+to-usize-requires : tie.Need-to-usize-requires
+to-usize-requires c κs = search needs
 
 sub-t11 : tie.Need-sub-t11
 sub-t11 c = search needs
 
 returns : tie.Need-returns
 unfolding openingBy
-returns c = rw (said (c .before .before .before .before .before .bit-of .ensures) (c .before .before .before .before .if1 .taken), said (c .before .before .before .bit-of2 .ensures) (c .before .before .if2 .taken), c .before .key-of .ensures, c .wide .ensures .0)
+returns c = rw (said (c .before .before .before .before .before .bit-of .ensures) (c .before .before .before .before .if1 .taken), said (c .before .before .before .bit-of2 .ensures) (c .before .before .if2 .taken), c .before .key-of .ensures, c .to-usize .ensures .0)
 
 key-of-requires-2 : tie.Need-key-of-requires-2
 key-of-requires-2 c κs = search needs
@@ -62,7 +62,7 @@ opening-of-spec =
     bit-of-requires
     bit-of-requires-2
     key-of-requires
-    wide-requires
+    to-usize-requires
     sub-t11
     returns
     key-of-requires-2

@@ -7,18 +7,18 @@ use Rattle.table.specs.Rows.{rows}
 use Rattle.table.proofs.field.def_of.Statement.{statement}
 use Rattle.table.proofs.field.def_of.Tie as tie
 
-mul-wide32 : tie.Need-mul-wide32
-mul-wide32 c = search needs
+mul-word-to-u64 : tie.Need-mul-word-to-u64
+mul-word-to-u64 c = search needs
 
-array-read-wide32 : tie.Need-array-read-wide32
-array-read-wide32 c = search needs
+array-read-word-to-u64 : tie.Need-array-read-word-to-u64
+array-read-word-to-u64 c = search needs
 
-wide32-requires : tie.Need-wide32-requires
-wide32-requires c κs = search needs
+word-to-u64-requires : tie.Need-word-to-u64-requires
+word-to-u64-requires c κs = search needs
 
 returns : tie.Need-returns
 unfolding rows
-returns c = c .wide32 .ensures ∙ List·getD-map (λ (r : Row). r .def) rows (c .before .args .row) no-row
+returns c = c .word-to-u64 .ensures .0 ∙ List·getD-map (λ (r : Row). r .def) rows (c .before .args .row) no-row
 
 pub def-of-spec : {M : Type 1} → statement M
-def-of-spec = tie.close (tie.spec mul-wide32 array-read-wide32 wide32-requires returns)
+def-of-spec = tie.close (tie.spec mul-word-to-u64 array-read-word-to-u64 word-to-u64-requires returns)

@@ -7,15 +7,15 @@ use Rattle.table.specs.Rows.{rows}
 use Rattle.table.proofs.field.len_of.Statement.{statement}
 use Rattle.table.proofs.field.len_of.Tie as tie
 
-array-read-wide8 : tie.Need-array-read-wide8
-array-read-wide8 c = search needs
+array-read-to-usize : tie.Need-array-read-to-usize
+array-read-to-usize c = search needs
 
-wide8-requires : tie.Need-wide8-requires
-wide8-requires c κs = search needs
+to-usize-requires : tie.Need-to-usize-requires
+to-usize-requires c κs = search needs
 
 returns : tie.Need-returns
 unfolding rows
-returns c = c .wide8 .ensures ∙ List·getD-map (λ (r : Row). r .len) rows (c .before .args .row) no-row
+returns c = c .to-usize .ensures .0 ∙ List·getD-map (λ (r : Row). r .len) rows (c .before .args .row) no-row
 
 pub len-of-spec : {M : Type 1} → statement M
-len-of-spec = tie.close (tie.spec array-read-wide8 wide8-requires returns)
+len-of-spec = tie.close (tie.spec array-read-to-usize to-usize-requires returns)

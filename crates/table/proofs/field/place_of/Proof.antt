@@ -7,18 +7,18 @@ use Rattle.table.specs.Rows.{rows}
 use Rattle.table.proofs.field.place_of.Statement.{statement}
 use Rattle.table.proofs.field.place_of.Tie as tie
 
-mul-wide16 : tie.Need-mul-wide16
-mul-wide16 c = search needs
+mul-pair-to-usize : tie.Need-mul-pair-to-usize
+mul-pair-to-usize c = search needs
 
-array-read-wide16 : tie.Need-array-read-wide16
-array-read-wide16 c = search needs
+array-read-pair-to-usize : tie.Need-array-read-pair-to-usize
+array-read-pair-to-usize c = search needs
 
-wide16-requires : tie.Need-wide16-requires
-wide16-requires c κs = search needs
+pair-to-usize-requires : tie.Need-pair-to-usize-requires
+pair-to-usize-requires c κs = search needs
 
 returns : tie.Need-returns
 unfolding rows
-returns c = c .wide16 .ensures ∙ List·getD-map (λ (r : Row). r .place) rows (c .before .args .row) no-row
+returns c = c .pair-to-usize .ensures .0 ∙ List·getD-map (λ (r : Row). r .place) rows (c .before .args .row) no-row
 
 pub place-of-spec : {M : Type 1} → statement M
-place-of-spec = tie.close (tie.spec mul-wide16 array-read-wide16 wide16-requires returns)
+place-of-spec = tie.close (tie.spec mul-pair-to-usize array-read-pair-to-usize pair-to-usize-requires returns)
