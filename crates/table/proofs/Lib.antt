@@ -1,10 +1,10 @@
 pub mod Walks
 pub mod Rules
 pub mod Widths
-pub mod SearchSteps
 pub mod Searched
 pub mod Pairs
 pub mod Table
+pub mod Way
 pub mod ColumnLaws
 pub mod Placed
 pub mod DefaultWords

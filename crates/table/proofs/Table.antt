@@ -12,12 +12,10 @@ use Rattle.table.specs.Row.{Row, no-row, BOOL, USINT, UINT, UDINT, ULINT
 use Rattle.table.specs.Rows.{rows, row-count, at-row}
 use Rattle.table.specs.Walk.{all, every, linked, chain}
 use Rattle.table.specs.Rule.{pick, key, held, block-bits, block-sum, is-number, real-rank, rank, finite, width-of, row-tests, row-ok, next-ok, table-ok}
-use Rattle.table.specs.Find.{absence, find-from, find-row, Below}
+use Rattle.table.specs.Find.{find-from, find-row}
 use Rattle.table.specs.declared.Found.{Found}
 use Rattle.table.specs.declared.Found.the-variants.{At, NoIndex, NoSub}
 use Rattle.table.proofs.Rules.{RowRule, Before, rule-at, before-at, one-row, apart-at}
-use Rattle.table.proofs.SearchSteps.{find-past}
-use Rattle.table.proofs.Walks.{lt-or-ge}
 use Rattle.table.proofs.Searched.{Has, No-index, No-key, at-has, no-index, index-absent, sub-absent, no-sub}
 
 -- THE RULE, computed once over the whole table
@@ -91,36 +89,6 @@ row-found i s r k = go (find-row i s) refl
     go (At q) e = let h = find-at i s q e in e ∙ ap At (same-row q r (h .there) (k .there) (omega arith))
     go NoIndex e = absurd (find-no-index i s e r l (k .index-is))
     go NoSub e = absurd (find-no-sub i s e r l (k .index-is) (k .sub-is))
-
--- ---- the search on rising indices
-
-pub index-rises : (j k : ℕ) → j ≤ k → k < row-count → at-row j .index ≤ at-row k .index
-unfolding key
-index-rises j k h l = ⊎-elim
-    (λ (a : j < k). omega (arith, before j k a l .rise, row-rule j (omega arith) .sub-byte, row-rule k l .sub-byte))
-    (λ (a : k ≤ j). let e : j ≡ k = omega arith in omega (arith, ap (λ (m : ℕ). at-row m .index) e))
-    (lt-or-ge j k)
-
-pub below-none : (i : ℕ) → Below 0 i
-below-none i = record { inside = omega arith; none = λ m h. absurd (omega arith) }
-
-pub below-more : (r n i : ℕ) → Below r i → r + n < row-count → at-row (r + n) .index < i → Below (r + n + 1) i
-below-more r n i b h g = record { inside = omega arith; none = λ m l. omega (arith, index-rises m (r + n) (omega arith) h) }
-
--- rows below the index are passed over
-pub from-below : (r i s : ℕ) → Below r i → find-from (drop r rows) r false i s ≡ find-row i s
-unfolding find-row
-from-below r i s b =
-    let e : 0 + r ≡ r = omega arith in
-    sym (rw e at (find-past rows r 0 false i s (omega (arith, b .inside, rows-length)) (λ m a h q. omega (arith, b .none m (omega arith)))))
-
--- a row whose index is above ends the search
-pub above-ends : (k : ℕ) (seen : Bool) (i s : ℕ) → k < row-count → i < at-row k .index → find-from (drop k rows) k seen i s ≡ absence seen
-above-ends k seen i s h g =
-    index-absent (drop k rows) k seen i s
-    (λ m l e.
-    let n = rw length-drop at l in
-    omega (arith, rows-length, index-rises k (k + m) (omega arith) (omega (arith, rows-length)), rw getD-drop at e))
 
 -- document 01's examples A, D and E: the lock has a row, its subindex 01 has none, index 2004 has none
 pub lock-found : find-row 0x2003 0 ≡ At 30

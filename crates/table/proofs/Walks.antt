@@ -1,8 +1,9 @@
 -- What a test over a whole list says at each place. It holds for any list. Assumes nothing.
-use mathlib.Core.Bool.{Bool, true, false}
+use mathlib.Core.Bool.{Bool, true, false, _&&_}
 use mathlib.Core.List.{List, [], _∷_}
 use Prim.Native.Nat.{ℕ, zero, suc, _<_, _≤_}
 use native.Mathlib.Nat.{le-of-suc-le-suc, not-suc-le-zero}
+use native.Mathlib.Omega.{arith}
 use lib.Dec.{T, ltb}
 use mathlib.Core.Path.{_≡_, refl}
 use mathlib.Core.Logic.{_⊎_, inl, inr}
@@ -65,3 +66,7 @@ module _ {A : Type 0} where
     chain-far (x ∷ xs) t zero (suc k) h l = linked-far x xs t k (le-of-suc-le-suc l)
     chain-far (x ∷ xs) t (suc j) zero h l = absurd (not-suc-le-zero h)
     chain-far (x ∷ xs) t (suc j) (suc k) h l = chain-far xs (tail-chain x xs t) j k (le-of-suc-le-suc h) (le-of-suc-le-suc l)
+
+pub and-true : (a b : Bool) → (a && b) ≡ true → (a ≡ true) × (b ≡ true)
+and-true true b e = (refl, e)
+and-true false b e = let z : _≡_ {A = ℕ} 0 1 = cc in absurd (omega arith)

@@ -2,10 +2,11 @@
 -- Assumes nothing.
 use mathlib.Core.Bool.{Bool, true, false}
 use mathlib.Core.List.{List, [], _∷_}
-use Prim.Native.Nat.{ℕ, suc, _≤_, _<_}
+use Prim.Native.Nat.{ℕ, suc, _+_, _-_, _*_, _≤_, _<_}
 use lib.Dec.{eqb}
 use Rattle.table.specs.Row.{Row}
 use Rattle.table.specs.Rows.{rows, row-count, at-row}
+use Rattle.table.specs.Rule.{key}
 use Rattle.table.specs.declared.Found.{Found}
 use Rattle.table.specs.declared.Found.the-variants.{At, NoIndex, NoSub}
 
@@ -31,7 +32,16 @@ find-from (r ∷ rs) n seen i s =
 unfoldable pub find-row : ℕ → ℕ → Found
 find-row i s = find-from rows 0 false i s
 
--- no row before row r has the index, and all before it are rows of the table
-pub record Below (r i : ℕ) : Type 0 where
+-- the number of a key, as `key` of a row
+abbrev pub wanted : ℕ → ℕ → ℕ
+wanted i s = i * 256 + s
+
+-- on the way to a key: all rows before row r are below it
+pub record Below (r i s : ℕ) : Type 0 where
   pub inside : r ≤ row-count
-  pub none : (m : ℕ) → m < r → at-row m .index < i
+  pub none : (m : ℕ) → m < r → key (at-row m) < wanted i s
+
+-- and the next step of so many rows would lead to a row that is not
+pub record Passed (step r i s : ℕ) : Type 0 where
+  pub below : Below r i s
+  pub reached : r + step ≤ row-count → wanted i s ≤ key (at-row (r + step - 1))

@@ -3,10 +3,15 @@ pub mod columns;
 pub mod field;
 pub mod place;
 
+ghost use mathlib.Core.Bool.{_&&_};
 ghost use mathlib.Core.Path.{_≡_};
+ghost use Prim.Native.Nat.{_≤_, _<_};
+ghost use lib.Dec.{eqb, ltb};
 ghost use Rattle.table.specs.Row.{Row};
-ghost use Rattle.table.specs.Columns.{column};
-ghost use Rattle.table.specs.Find.{absence, find-row, Below};
+ghost use Rattle.table.specs.Rows.{row-count, at-row};
+ghost use Rattle.table.specs.Rule.{key};
+ghost use Rattle.table.specs.Columns.{column, Lent};
+ghost use Rattle.table.specs.Find.{wanted, find-row, Below, Passed};
 
 pub const ROWS: usize = columns::ROWS;
 
@@ -17,55 +22,72 @@ pub enum Found {
     NoSub,
 }
 
-fn absent(seen: bool) -> Found
-    ensures { λ r. ⌜ r ≡ absence seen ⌝ }
+// Is the row's key below this one?
+fn is_below(indices: &[u16], subs: &[u8], row: usize, index: u16, sub: u8) -> bool
+    requires { ⌜ Lent (now indices) (now subs) × (row < row-count) ⌝ }
+    ensures { λ r. ⌜ r ≡ ltb (key (at-row row)) (wanted index sub) ⌝ }
 {
-    if seen { Found::NoSub } else { Found::NoIndex }
+    if indices[row] == index {
+        return subs[row] < sub;
+    }
+    indices[row] < index
 }
 
-// Indices rise, so sixteen rows are passed over at once while the last of them is below the index.
-fn skip(indices: &[u16], index: u16) -> usize
-    requires { ⌜ now indices ≡ column (λ (r : Row). r .index) ⌝ }
-    ensures { λ r. ⌜ Below r index ⌝ }
+// Keys rise, so step rows are passed over at once while the last of them is below the key.
+fn skip(indices: &[u16], subs: &[u8], from: usize, step: usize, index: u16, sub: u8) -> usize
+    requires { ⌜ Lent (now indices) (now subs) × (1 ≤ step) × (step ≤ row-count) × Below from index sub ⌝ }
+    ensures { λ r. ⌜ Passed step r index sub ⌝ }
 {
-    let mut row = 0;
-    while row + 16 <= ROWS {
-        if index <= indices[row + 15] {
+    let mut row = from;
+    while row + step <= ROWS {
+        if !is_below(indices, subs, row + step - 1, index, sub) {
             return row;
         }
-        row += 16;
+        row += step;
     }
     row
 }
 
-// From a row on, up to the first row whose index is above.
-fn scan(indices: &[u16], subs: &[u8], from: usize, index: u16, sub: u8) -> Found
-    requires { ⌜ (now indices ≡ column (λ (r : Row). r .index)) × (now subs ≡ column (λ (r : Row). r .sub)) × Below from index ⌝ }
+// Has this row the index? There is none past the last.
+fn has_index(indices: &[u16], row: usize, index: u16) -> bool
+    requires { ⌜ now indices ≡ column (λ (r : Row). r .index) ⌝ }
+    ensures { λ r. ⌜ r ≡ (ltb row row-count && eqb (at-row row .index) index) ⌝ }
+{
+    if row < ROWS {
+        return indices[row] == index;
+    }
+    false
+}
+
+// What is found where no row is left below the key: an absent subindex's neighbours have the index.
+fn found_at(indices: &[u16], subs: &[u8], row: usize, index: u16, sub: u8) -> Found
+    requires { ⌜ Lent (now indices) (now subs) × Passed 1 row index sub ⌝ }
     ensures { λ r. ⌜ r ≡ find-row index sub ⌝ }
 {
-    let mut seen = false;
-    let mut row = from;
-    while row < ROWS {
-        if index < indices[row] {
-            return absent(seen);
+    if has_index(indices, row, index) {
+        if subs[row] == sub {
+            return Found::At(row);
         }
-        if indices[row] == index {
-            if subs[row] == sub {
-                return Found::At(row);
-            }
-            seen = true;
-        }
-        row += 1;
+        return Found::NoSub;
     }
-    absent(seen)
+    if row == 0 {
+        return Found::NoIndex;
+    }
+    if has_index(indices, row - 1, index) {
+        return Found::NoSub;
+    }
+    Found::NoIndex
 }
 
 // The columns are lent, so that they are laid out once for the whole search.
 fn search(indices: &[u16], subs: &[u8], index: u16, sub: u8) -> Found
-    requires { ⌜ (now indices ≡ column (λ (r : Row). r .index)) × (now subs ≡ column (λ (r : Row). r .sub)) ⌝ }
+    requires { ⌜ Lent (now indices) (now subs) ⌝ }
     ensures { λ r. ⌜ r ≡ find-row index sub ⌝ }
 {
-    scan(indices, subs, skip(indices, index), index, sub)
+    let far = skip(indices, subs, 0, 16, index, sub);
+    let near = skip(indices, subs, far, 4, index, sub);
+    let row = skip(indices, subs, near, 1, index, sub);
+    found_at(indices, subs, row, index, sub)
 }
 
 // The row with the index and subindex, or which of the two is absent.

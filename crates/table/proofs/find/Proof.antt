@@ -14,7 +14,7 @@ slice-aggregate-search-2 c = search needs
 
 search-requires : tie.Need-search-requires
 unfolding rows column
-search-requires c κs = (refl, refl)
+search-requires c κs = record { indices-are = refl; subs-are = refl }
 
 returns : tie.Need-returns
 returns c = search needs

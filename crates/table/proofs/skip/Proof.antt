@@ -1,56 +1,59 @@
--- `table::skip`. The invariant: all rows passed over are below the index. Assumes nothing.
-use mathlib.Core.Path.{_≡_}
+-- `skip`. The invariant: all rows passed over are below the key. Assumes nothing.
+use mathlib.Core.Path.{_≡_, sym, _∙_}
 use Prim.Native.Nat.{_+_, _≤_, _<_, _-_}
 use native.Mathlib.Omega.{arith}
 use borrow.Author.Needs.{needs}
-use Rattle.table.specs.Row.{Row}
+use borrow.Author.Tests.{ltb-true, ltb-false, not-true, not-false}
 use Rattle.table.specs.Rows.{row-count, at-row}
 use Rattle.table.specs.Find.{Below}
-use Rattle.table.proofs.Table.{below-none, below-more}
-use Rattle.table.proofs.ColumnLaws.{field-at, column-long}
+use Rattle.table.proofs.Way.{below-more}
 use Rattle.table.proofs.skip.Statement.{statement}
 use Rattle.table.proofs.skip.Tie as tie
 
 abbrev Inv-loop : tie.InvT-loop
-Inv-loop indices index row₀ row = Below row index
+Inv-loop indices subs from step index sub row₀ row = Below row index sub
 
 abbrev μ-loop : tie.MeasureT-loop
-μ-loop indices index row₀ row = row-count - row
+μ-loop indices subs from step index sub row₀ row = row-count - row
 
 loop-holds : tie.Need-loop-holds Inv-loop μ-loop
-loop-holds c = below-none _
+loop-holds c = c .before .before .pre .3
 
 add-loop : tie.Need-add-loop Inv-loop μ-loop
-add-loop c = search needs
+add-loop c = let s = c .before .before .before in omega (arith, c .loop .inv .inside, s .pre .2)
 
-add-if1 : tie.Need-add-if1 Inv-loop μ-loop
-add-if1 c = search needs
+add-is-below : tie.Need-add-is-below Inv-loop μ-loop
+add-is-below c = omega arith
 
-mul-if1 : tie.Need-mul-if1 Inv-loop μ-loop
-mul-if1 c = search needs
+sub-is-below : tie.Need-sub-is-below Inv-loop μ-loop
+sub-is-below c = let s = c .before .before .before .before in omega (arith, s .pre .1)
 
-shared-slice-read-if1 : tie.Need-shared-slice-read-if1 Inv-loop μ-loop
-shared-slice-read-if1 c = let b = c .before .before .before in omega (arith, column-long (λ (r : Row). r .index) (b .args .indices .now) (b .pre))
+is-below-requires : tie.Need-is-below-requires Inv-loop μ-loop
+is-below-requires c κs = let s = c .before .before .before .before in (s .pre .0, omega (arith, s .pre .1))
 
 returns : tie.Need-returns Inv-loop μ-loop
-returns c = c .before .before .before .loop .inv
+returns c =
+    record {
+      below = c .before .before .before .loop .inv;
+      reached = λ h. ltb-false _ _ (sym (c .before .is-below .ensures) ∙ not-true _ (c .if1 .taken));
+    }
 
 add-row : tie.Need-add-row Inv-loop μ-loop
-add-row c = search needs
+add-row c = omega arith
 
 loop-less : tie.Need-loop-less Inv-loop μ-loop
-loop-less c = search needs
+loop-less c = let s = c .before .before .before .before .before .before in omega (arith, s .pre .1)
 
 loop-again : tie.Need-loop-again Inv-loop μ-loop
 loop-again c =
+    let s = c .before .before .before .before .before .before in
     let l = c .before .before .before .loop in
-    let b = c .before .before .before .before in
-    let e : at-row (l .row + 15) .index < b .args .index = omega (arith, field-at (λ (r : Row). r .index) (b .args .indices .now) (l .row + 15) (b .pre)) in
-    let n : l .row + 15 + 1 ≡ l .row + 16 = omega arith in
-    rw n at (below-more (l .row) 15 (b .args .index) (l .inv) (omega arith) e)
+    let e : l .row + (s .args .step - 1) ≡ l .row + s .args .step - 1 = omega (arith, s .pre .1) in
+    let n : l .row + (s .args .step - 1) + 1 ≡ l .row + s .args .step = omega (arith, s .pre .1) in
+    rw n at (below-more (l .row) (s .args .step - 1) (s .args .index) (s .args .sub) (l .inv) (omega (arith, s .pre .1)) (rw e (ltb-true _ _ (sym (c .before .is-below .ensures) ∙ not-false _ (c .if1 .left)))))
 
 returns-2 : tie.Need-returns-2 Inv-loop μ-loop
-returns-2 c = c .before .loop .inv
+returns-2 c = record { below = c .before .loop .inv; reached = λ h. absurd (omega arith) }
 
 pub skip-spec : {M : Type 1} → statement M
 skip-spec =
@@ -60,9 +63,9 @@ skip-spec =
     μ-loop
     loop-holds
     add-loop
-    add-if1
-    mul-if1
-    shared-slice-read-if1
+    add-is-below
+    sub-is-below
+    is-below-requires
     returns
     add-row
     loop-less
