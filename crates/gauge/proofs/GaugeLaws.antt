@@ -30,7 +30,7 @@ use Rattle.card.specs.Card.{card-of, with-card}
 use Rattle.card.proofs.RoundTrip.{card-back}
 use Rattle.block.specs.Saved.{loaded}
 use Rattle.block.proofs.Theorems.{length-loaded, load-other}
-use Rattle.sample.specs.Faults.{summary, with-summary}
+use Rattle.sample.specs.Faults.{with-summary}
 use Rattle.gauge.specs.Memory.{Memory, with-values}
 use Rattle.gauge.specs.Words.{word-of, status-of, with-status, same-bytes}
 use Rattle.gauge.specs.Lock.{guarded, locked}

@@ -11,5 +11,5 @@ pub fn clear_latched(values: &mut [u8])
 {
     let zeros = [0u8; 33];
     wire::copy_at(values, place::LATCHED_STATUS, &zeros, 0, 33);
-    sample::put_summary(values);
+    sample::put_summary(values, wire::word_at(values, place::ACTIVE_WORD));
 }

@@ -16,7 +16,7 @@ use Rattle.wire.proofs.Writes.{Write, write, written, within, tidy, shown, and-
 use Rattle.trip.specs.declared.Trips.{Trips}
 use Rattle.trip.specs.Trip.{usable-pressure}
 use Rattle.table.specs.Places.{input-value, trip-input-1, trip-input-2, reading-valid, status-1, status-2, trip-outputs, settings-1, settings-2, sensor-error, active-word, latched-word, summary-byte, power-on-time}
-use Rattle.sample.specs.Faults.{kept, with-faults, summary, with-summary}
+use Rattle.sample.specs.Faults.{kept, with-faults, summary-of, with-summary}
 use Rattle.sample.specs.Sample.{is-set, bit, settings, trips-after, with-reading, trip-word, with-trips, values-after}
 
 -- ---- the kept faults
@@ -132,8 +132,8 @@ module _ (l : List ℕ) (was : Trips) (p : Float) (valid faults seconds : ℕ) (
       let e = from-little 4 (kept faults) (kept-word faults) in
       each l was p valid h (with-faults faults m) (f-writes []) f-by active-word 4 (kept faults) refl e e
 
-  summary-before : summary (with-faults faults m) ≡ cond (eqb (kept faults) 0) 0 4
-  unfolding summary
+  summary-before : summary-of (number (with-faults faults m) active-word 4) ≡ cond (eqb (kept faults) 0) 0 4
+  unfolding summary-of
   summary-before = rw active-before
 
   abbrev all-writes : List Write

@@ -17,9 +17,9 @@ with-faults faults l =
     put-number (put-number (put-number l sensor-error 2 (kept faults)) active-word 4 (kept faults)) latched-word 4 (bitOr (kept faults) (number l latched-word 4))
 
 -- "The summary byte, placed as in 000, 4.6.4": bit 2, Device Error, while the active word is not zero
-unfoldable pub summary : List ℕ → ℕ
-summary l = cond (eqb (number l active-word 4) 0) 0 4
+unfoldable pub summary-of : ℕ → ℕ
+summary-of active = cond (eqb active 0) 0 4
 
 -- "worked out anew from the active word at each sample and exception reset"
 unfoldable pub with-summary : List ℕ → List ℕ
-with-summary l = put-number l summary-byte 1 (summary l)
+with-summary l = put-number l summary-byte 1 (summary-of (number l active-word 4))

@@ -8,7 +8,9 @@ use trip::Trips;
 ghost use mathlib.Core.Path.{_≡_};
 ghost use Prim.Native.Nat.{_+_, _≤_, _<_};
 ghost use lib.ListN.{length};
-ghost use Rattle.sample.specs.Faults.{kept, with-faults, with-summary};
+ghost use Rattle.wire.specs.Little.{put-number};
+ghost use Rattle.table.specs.Places.{summary-byte};
+ghost use Rattle.sample.specs.Faults.{kept, with-faults, summary-of};
 ghost use Rattle.sample.specs.Sample.{is-set, bit, settings, trips-after, with-reading, trip-word, with-trips, values-after};
 
 pub fn is_set(values: &[u8], at: usize) -> bool
@@ -107,12 +109,12 @@ fn put_faults(values: &mut [u8], faults: u32)
     wire::put_word(values, place::LATCHED_WORD, latched);
 }
 
-// The summary byte worked out anew.
-pub fn put_summary(values: &mut [u8])
+// The summary byte of an active word.
+pub fn put_summary(values: &mut [u8], active: u32)
     requires { ⌜ length (now values) ≡ 1024 ⌝ }
-    ensures { λ _. ⌜ now (values .exit) ≡ with-summary (now (values .entry)) ⌝ }
+    ensures { λ _. ⌜ now (values .exit) ≡ put-number (now (values .entry)) summary-byte 1 (summary-of active) ⌝ }
 {
-    if wire::word_at(values, place::ACTIVE_WORD) == 0 {
+    if active == 0 {
         wire::put_byte(values, place::SUMMARY_BYTE, 0);
     } else {
         wire::put_byte(values, place::SUMMARY_BYTE, 4);
@@ -135,7 +137,7 @@ pub fn taken(
     put_reading(values, pressure, valid);
     put_trips(values, next);
     put_faults(values, faults);
-    put_summary(values);
+    put_summary(values, wire::word_at(values, place::ACTIVE_WORD));
     wire::put_word(values, place::POWER_ON_TIME, seconds);
     next
 }
