@@ -26,8 +26,3 @@ Packable [] [] = Unit
 Packable [] (v ∷ vs) = ⊥
 Packable (w ∷ ws) [] = ⊥
 Packable (w ∷ ws) (v ∷ vs) = ((w ≤ 32) × (v < 2 ^ w)) × Packable ws vs
-
--- widths of at most 32 bits
-unfoldable pub Narrow : List ℕ → Type 0
-Narrow [] = Unit
-Narrow (w ∷ ws) = (w ≤ 32) × Narrow ws

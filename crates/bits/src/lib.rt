@@ -5,7 +5,6 @@ ghost use Prim.Native.Nat.{_+_, _-_, _*_, _%_, _^_, _≤_, _<_};
 ghost use lib.ListN.{length, take, drop};
 ghost use Rattle.wire.specs.Splice.{splice};
 ghost use Rattle.bits.specs.Bits.{bits, field, msb, packed, merged};
-ghost use Rattle.bits.specs.Fields.{encode, decode, total, Packable, Narrow};
 
 // ---- A field: cut out of the bytes that it touches, at most five.
 
@@ -70,37 +69,27 @@ pub fn put_field(s: &mut [u8], at: usize, width: usize, value: u32)
     spread(s, first, last, merge(v, width, low, wide));
 }
 
-// ---- Fields one after the other.
+// ---- A field of four whole bytes, with no loop.
 
-// The values, each at its width, from bit at on.
-pub fn pack_fields(s: &mut [u8], at: usize, widths: &[u8], values: &[u32])
-    requires { ⌜ Packable (now widths) (now values) × (at + total (now widths) ≤ 8 * length (now s)) × (at + total (now widths) ≤ 4096) ⌝ }
-    ensures { λ r. ⌜ bits (now (s .exit)) ≡ splice (bits (now (s .entry))) at (encode (now (widths .entry)) (now (values .entry))) ⌝ }
+pub fn word_at(s: &[u8], at: usize) -> u32
+    requires { ⌜ at + 4 ≤ length (now s) ⌝ }
+    ensures { λ r. ⌜ r ≡ field (bits (now (s .entry))) (8 * at) 32 ⌝ }
 {
-    let mut i: usize = 0;
-    let mut a = at;
-    while i < widths.len() {
-        let w = widths[i] as usize;
-        let v = values[i];
-        put_field(s, a, w, v);
-        a += w;
-        i += 1;
-    }
+    let a = wide::to_u32(s[at]);
+    let b = wide::to_u32(s[at + 1]);
+    let c = wide::to_u32(s[at + 2]);
+    let d = wide::to_u32(s[at + 3]);
+    a * 16777216 + b * 65536 + c * 256 + d
 }
 
-// The values of fields of the widths, from bit at on, into out.
-pub fn unpack_fields(s: &[u8], at: usize, widths: &[u8], out: &mut [u32])
-    requires { ⌜ Narrow (now widths) × (length (now out) ≡ length (now widths)) × (at + total (now widths) ≤ 8 * length (now s)) × (at + total (now widths) ≤ 4096) ⌝ }
-    ensures { λ r. ⌜ now (out .exit) ≡ decode (now (widths .entry)) (drop at (bits (now (s .entry)))) ⌝ }
+pub fn put_word(s: &mut [u8], at: usize, v: u32)
+    requires { ⌜ at + 4 ≤ length (now s) ⌝ }
+    ensures { λ _. ⌜ bits (now (s .exit)) ≡ splice (bits (now (s .entry))) (8 * at) (msb 32 v) ⌝ }
 {
-    let mut i: usize = 0;
-    let mut a = at;
-    while i < widths.len() {
-        let w = widths[i] as usize;
-        out[i] = get_field(s, a, w);
-        a += w;
-        i += 1;
-    }
+    s[at] = (v / 16777216) as u8;
+    s[at + 1] = (v / 65536 % 256) as u8;
+    s[at + 2] = (v / 256 % 256) as u8;
+    s[at + 3] = (v % 256) as u8;
 }
 
 // ---- Bytes at any bit.

@@ -25,6 +25,10 @@ pub enable-lt : (l : List ℕ) (at : ℕ) → enable l at < 2
 unfolding enable
 enable-lt l at = flag-lt (eqb (number l at 1) 0)
 
+pub point-enables : (l : List ℕ) (at : ℕ) → (getD (point-fields l at) 0 0 < 2) × (getD (point-fields l at) 1 0 < 2)
+unfolding point-fields
+point-enables l at = (enable-lt l (at + high-enable), enable-lt l (at + low-enable))
+
 -- six numbers that were read
 pub fields-are : (l : List ℕ) (at : ℕ) {a b c d e f : ℕ} → a ≡ enable l (at + high-enable) → b ≡ enable l (at + low-enable) → c ≡ number l (at + high-level) 4
     → d ≡ number l (at + high-hysteresis) 4 → e ≡ number l (at + low-level) 4 → f ≡ number l (at + low-hysteresis) 4 → _≡_ {A = List ℕ} (a ∷ b ∷ c ∷ d ∷ e ∷ f ∷ []) (point-fields l at)
@@ -51,9 +55,9 @@ unfolding fields-of
 fields-lt card at k = decode-lt widths (drop at (bits card)) k (small-drop at (bits card) (small-bits card))
 
 -- six numbers, one after the other
-pub point-written : (l a b c d e f fs gs : List ℕ) (to : ℕ) → gs ≡ fs
-    → a ≡ put-number l (to + high-enable) 1 (getD gs 0 0) → b ≡ put-number a (to + low-enable) 1 (getD gs 1 0) → c ≡ put-number b (to + high-level) 4 (getD gs 2 0)
-    → d ≡ put-number c (to + high-hysteresis) 4 (getD gs 3 0) → e ≡ put-number d (to + low-level) 4 (getD gs 4 0) → f ≡ put-number e (to + low-hysteresis) 4 (getD gs 5 0)
+pub point-written : (l a b c d e f fs : List ℕ) (to : ℕ)
+    → a ≡ put-number l (to + high-enable) 1 (getD fs 0 0) → b ≡ put-number a (to + low-enable) 1 (getD fs 1 0) → c ≡ put-number b (to + high-level) 4 (getD fs 2 0)
+    → d ≡ put-number c (to + high-hysteresis) 4 (getD fs 3 0) → e ≡ put-number d (to + low-level) 4 (getD fs 4 0) → f ≡ put-number e (to + low-hysteresis) 4 (getD fs 5 0)
     → f ≡ with-point l to fs
 unfolding with-point
-point-written l a b c d e f fs gs to g ea eb ec ed ee ef = rw (ef, ee, ed, ec, eb, ea, g)
+point-written l a b c d e f fs to ea eb ec ed ee ef = rw (ef, ee, ed, ec, eb, ea)

@@ -1,6 +1,8 @@
 -- Laws of the trip card.
 pub mod Fields
+pub mod Words
 pub mod Made
+pub mod Judged
 pub mod Shown
 pub mod Stored
 pub mod RoundTrip

@@ -1,19 +1,20 @@
--- The card that is made: layout and two points, one behind the other, are the 33 bytes of the card. Assumes nothing.
+-- The card that is made: 17 bytes and 16 are the 33 bytes of the card. Assumes nothing.
 use mathlib.Core.Path.{_≡_, refl, sym, ap, ap₂, _∙_}
-use mathlib.Core.List.{List, [], _∷_, _++_, append-assoc}
-use Prim.Native.Nat.{ℕ, zero, suc, _+_, _*_, _≤_}
+use mathlib.Core.List.{List, [], _∷_, _++_, append-assoc, append-nil}
+use Prim.Native.Nat.{ℕ, zero, suc, _+_, _*_, _≤_, _<_}
 use native.Mathlib.Nat.{suc-add, zero-add}
 use native.Mathlib.Omega.{arith}
-use lib.ListN.{length, take, drop, replicate, length-append, length-drop}
+use lib.ListN.{length, take, drop, replicate, getD, length-append, length-drop}
 use lib.Seq.{take-append-le, drop-append-le, drop-drop, drop-at, drop-nil, getD-drop}
 use Rattle.wire.specs.Splice.{splice}
 use Rattle.wire.proofs.SpliceLaws.{splice-then, part-same}
 use Rattle.wire.proofs.LittleLaws.{Bytes}
 use Rattle.bits.specs.Bits.{msb, bits, num, packed}
-use Rattle.bits.proofs.Numbers.{length-msb, length-bits, length-packed, bytes-of}
+use Rattle.bits.specs.Fields.{encode}
+use Rattle.bits.proofs.Numbers.{length-msb, msb-cat, length-bits, length-packed, bytes-of}
 use Rattle.table.specs.Places.{settings-1, settings-2}
-use Rattle.card.specs.Card.{point-bits, card-bits, card-of}
-use Rattle.card.proofs.Fields.{length-point}
+use Rattle.card.specs.Card.{layout, widths, point-fields, point-bits, card-bits, card-of}
+use Rattle.card.proofs.Fields.{enable-lt, length-point}
 
 -- ---- lengths
 
@@ -66,22 +67,30 @@ from-bits s c E hs hc n room e b =
     let hr : Bytes r = λ k. rw getD-drop (hs (33 + k)) in
     sym (bytes-of c hc) ∙ ap₂ packed m w ∙ packed-append 33 (length r) E (bits r) e ∙ rw (bytes-of r hr, length-packed 33 E)
 
--- layout, point 1 and point 2 put one behind the other
-pub card-made : (values s a b c : List ℕ) → Bytes values → Bytes s → Bytes c → length c ≡ length s → 33 ≤ length s
-    → bits a ≡ splice (bits s) 0 (msb 4 1) → bits b ≡ splice (bits a) 4 (point-bits values settings-1) → bits c ≡ splice (bits b) 134 (point-bits values settings-2)
+two-bits : (h l : ℕ) → l < 2 → msb 2 (h * 2 + l) ≡ msb 1 h ++ msb 1 l
+two-bits h l e = msb-cat 1 1 h l e
+
+-- six bits, four words and two bits, then four words, are layout, point 1 and point 2
+regrouped : (h l a b c d i m e f g k : ℕ) → h < 2 → l < 2 → i < 2 → m < 2
+    → (msb 6 (4 + (h * 2 + l)) ++ (msb 32 a ++ (msb 32 b ++ (msb 32 c ++ (msb 32 d ++ msb 2 (i * 2 + m)))))) ++ (msb 32 e ++ (msb 32 f ++ (msb 32 g ++ msb 32 k)))
+    ≡ msb 4 layout ++ (encode widths (h ∷ l ∷ a ∷ b ∷ c ∷ d ∷ []) ++ encode widths (i ∷ m ∷ e ∷ f ∷ g ∷ k ∷ []))
+unfolding encode
+regrouped h l a b c d i m e f g k hh hl hi hm =
+    rw (msb-cat 4 2 1 (h * 2 + l) (omega arith), two-bits h l hl, two-bits i m hm) (simp (append-assoc, append-nil))
+
+-- the first 17 bytes and the 16 behind them are the card
+pub card-made : (values s t c one two : List ℕ) (h m : ℕ) → Bytes values → Bytes s → Bytes c → length c ≡ length s → 33 ≤ length s
+    → one ≡ point-fields values settings-1 → two ≡ point-fields values settings-2 → h ≡ getD one 0 0 * 2 + getD one 1 0 → m ≡ getD two 0 0 * 2 + getD two 1 0
+    → bits t ≡ splice (bits s) 0 (msb 6 (4 + h) ++ (msb 32 (getD one 2 0) ++ (msb 32 (getD one 3 0) ++ (msb 32 (getD one 4 0) ++ (msb 32 (getD one 5 0) ++ msb 2 m)))))
+    → bits c ≡ splice (bits t) 136 (msb 32 (getD two 2 0) ++ (msb 32 (getD two 3 0) ++ (msb 32 (getD two 4 0) ++ msb 32 (getD two 5 0))))
     → c ≡ splice s 0 (card-of values)
-unfolding card-of card-bits
-card-made values s a b c h hs hc n room ea eb ec =
-    let Z : List ℕ = bits s in
-    let A : List ℕ = msb 4 1 in
-    let P : List ℕ = point-bits values settings-1 in
-    let Q : List ℕ = point-bits values settings-2 in
-    let lz : length Z ≡ 8 * length s = length-bits s in
-    let la : length A ≡ 4 = length-msb 4 1 in
-    let lp : length P ≡ 130 = length-point values settings-1 h in
-    let lq : length Q ≡ 130 = length-point values settings-2 h in
-    let e : bits c ≡ splice Z 0 (A ++ (P ++ Q)) =
-    ec ∙ ap (λ (x : List ℕ). splice x 134 Q) (eb ∙ ap (λ (x : List ℕ). splice x 4 P) ea ∙ behind Z A P 4 la (omega arith))
-    ∙ behind Z (A ++ P) Q 134 (omega (arith, length-append A P)) (omega arith)
-    ∙ ap (splice Z 0) (append-assoc A P Q) in
-    from-bits s c (A ++ (P ++ Q)) hs hc n room (length-card-bits values h) e
+unfolding card-of card-bits point-bits point-fields
+card-made values s t c one two h m hv hs hc n room e1 e2 eh em et ec =
+    let A : List ℕ = msb 6 (4 + h) ++ (msb 32 (getD one 2 0) ++ (msb 32 (getD one 3 0) ++ (msb 32 (getD one 4 0) ++ (msb 32 (getD one 5 0) ++ msb 2 m)))) in
+    let Q : List ℕ = msb 32 (getD two 2 0) ++ (msb 32 (getD two 3 0) ++ (msb 32 (getD two 4 0) ++ msb 32 (getD two 5 0))) in
+    let la : length A ≡ 136 = simp (length-append, length-msb) in
+    let lq : length Q ≡ 128 = simp (length-append, length-msb) in
+    let same : A ++ Q ≡ card-bits values =
+    rw (eh, em, e1, e2) (regrouped _ _ _ _ _ _ _ _ _ _ _ _ (enable-lt values _) (enable-lt values _) (enable-lt values _) (enable-lt values _)) in
+    from-bits s c (card-bits values) hs hc n room (length-card-bits values hv)
+    (ec ∙ ap (λ (x : List ℕ). splice x 136 Q) et ∙ behind (bits s) A Q 136 la (omega (arith, length-bits s)) ∙ ap (splice (bits s) 0) same)

@@ -1,10 +1,10 @@
 -- THE TRIP CARD (document 01, house row 2010): "Trip card, most significant bit first, no gaps: layout 4 bits (1); then for trip
 -- point 1 and again for 2: high enable 1, low enable 1, high level 32, high hysteresis 32, low level 32, low hysteresis 32.
 -- 264 bits." "A view of the trip entries, stored nowhere else."
-use mathlib.Core.Bool.{cond}
+use mathlib.Core.Bool.{Bool, cond, _&&_}
 use mathlib.Core.List.{List, [], _∷_, _++_}
 use Prim.Native.Nat.{ℕ, _+_}
-use lib.Dec.{eqb}
+use lib.Dec.{eqb, leb}
 use lib.ListN.{drop, getD}
 use Rattle.wire.specs.Little.{number, put-number}
 use Rattle.bits.specs.Bits.{msb, bits, field, packed}
@@ -85,6 +85,11 @@ first-bad Below next = Below
 unfoldable pub point-verdict : List ℕ → Verdict
 point-verdict fields =
     first-bad (level-verdict (getD fields 2 0)) (first-bad (level-verdict (getD fields 3 0)) (first-bad (level-verdict (getD fields 4 0)) (level-verdict (getD fields 5 0))))
+
+-- each number's pattern, as a whole number, is at most that of 1500: so it is within without more ado
+unfoldable pub plainly-within : List ℕ → Bool
+plainly-within fields =
+    leb (getD fields 2 0) 0x44BB8000 && (leb (getD fields 3 0) 0x44BB8000 && (leb (getD fields 4 0) 0x44BB8000 && leb (getD fields 5 0) 0x44BB8000))
 
 unfoldable pub card-verdict : List ℕ → Verdict
 card-verdict card =

@@ -1,20 +1,16 @@
-// The trip card: a view of the trip entries in the values, its judgement and its write.
+// The trip card: a view of the trip entries in the values, its judgement and its write. The words of trip point 1 begin two bits
+// before a whole byte, those of trip point 2 on one.
 use entry::limits::Verdict;
 use table::place;
+use wire::wide;
+ghost use mathlib.Core.Bool.{_&&_};
+ghost use mathlib.Core.List.{_++_};
 ghost use mathlib.Core.Path.{_≡_};
-ghost use Prim.Native.Nat.{_+_, _*_, _≤_, _<_};
-ghost use lib.ListN.{length, replicate};
+ghost use Prim.Native.Nat.{_+_, _*_, _/_, _%_, _≤_, _<_};
+ghost use lib.ListN.{length, replicate, getD};
 ghost use Rattle.wire.specs.Splice.{splice};
-ghost use Rattle.bits.specs.Bits.{bits};
-ghost use Rattle.card.specs.Card.{enable, point-bits, card-of, fields-of, level-verdict, layout-verdict, first-bad, point-verdict, card-verdict, with-point, with-card};
-
-// A point's fields: high enable, low enable, high level, high hysteresis, low level, low hysteresis.
-const WIDTHS: [u8; 6] = [1, 1, 32, 32, 32, 32];
-
-// The bits of a card at which the fields of the two points begin.
-const POINT_1: usize = 4;
-
-const POINT_2: usize = 134;
+ghost use Rattle.bits.specs.Bits.{msb, bits};
+ghost use Rattle.card.specs.Card.{point-1, point-2, enable, point-fields, card-of, fields-of, level-verdict, layout-verdict, first-bad, plainly-within, card-verdict, with-point, with-card};
 
 // ---- the card of the values
 
@@ -28,31 +24,80 @@ fn enable_at(values: &[u8], at: usize) -> u32
     1
 }
 
-// The fields of the point whose entries begin at a place, from a bit of the card on.
-fn put_point(card: &mut [u8], at: usize, values: &[u8], from: usize)
-    requires { ⌜ (at + 130 ≤ 8 * length (now card)) × (at ≤ 134) × (from + 34 ≤ length (now values)) ⌝ }
-    ensures { λ _. ⌜ bits (now (card .exit)) ≡ splice (bits (now (card .entry))) at (point-bits (now (values .entry)) from) ⌝ }
+// The fields of the point whose entries begin at a place.
+fn point_at(values: &[u8], from: usize) -> [u32; 6]
+    requires { ⌜ from + 34 ≤ length (now values) ⌝ }
+    ensures { λ r. ⌜ r ≡ point-fields (now (values .entry)) from ⌝ }
 {
-    let widths = WIDTHS;
-    let fields = [
+    [
         enable_at(values, from + place::HIGH_ENABLE),
         enable_at(values, from + place::LOW_ENABLE),
         wire::word_at(values, from + place::HIGH_LEVEL),
         wire::word_at(values, from + place::HIGH_HYSTERESIS),
         wire::word_at(values, from + place::LOW_LEVEL),
         wire::word_at(values, from + place::LOW_HYSTERESIS),
-    ];
-    bits::pack_fields(card, at, &widths, &fields);
+    ]
 }
 
-// The card as the first 33 bytes of what is lent.
+// The 30 low bits of a word, then the two high bits of the next.
+fn joined(a: u32, b: u32) -> u32
+    ensures { λ r. ⌜ r ≡ a % 1073741824 * 4 + b / 1073741824 ⌝ }
+{
+    a % 1073741824 * 4 + b / 1073741824
+}
+
+// Four words into the bytes from a place on.
+fn put_words(card: &mut [u8], at: usize, a: u32, b: u32, c: u32, d: u32)
+    requires { ⌜ at + 16 ≤ length (now card) ⌝ }
+    ensures { λ _. ⌜ bits (now (card .exit)) ≡ splice (bits (now (card .entry))) (8 * at) (msb 32 a ++ (msb 32 b ++ (msb 32 c ++ msb 32 d))) ⌝ }
+{
+    bits::put_word(card, at, a);
+    bits::put_word(card, at + 4, b);
+    bits::put_word(card, at + 8, c);
+    bits::put_word(card, at + 12, d);
+}
+
+// The 17 bytes of six bits, four words and two bits.
+fn put_first(card: &mut [u8], head: u32, a: u32, b: u32, c: u32, d: u32, tail: u32)
+    requires { ⌜ (17 ≤ length (now card)) × (head < 64) × (tail < 4) ⌝ }
+    ensures { λ _. ⌜ bits (now (card .exit)) ≡ splice (bits (now (card .entry))) 0 (msb 6 head ++ (msb 32 a ++ (msb 32 b ++ (msb 32 c ++ (msb 32 d ++ msb 2 tail))))) ⌝ }
+{
+    card[0] = (head * 4 + a / 1073741824) as u8;
+    put_words(
+        card,
+        1,
+        joined(a, b),
+        joined(b, c),
+        joined(c, d),
+        joined(d, tail * 1073741824),
+    );
+}
+
+// The two enables of a point as two bits.
+fn enables(point: [u32; 6]) -> u32
+    requires { ⌜ (getD point 0 0 < 2) × (getD point 1 0 < 2) ⌝ }
+    ensures { λ r. ⌜ (r ≡ getD point 0 0 * 2 + getD point 1 0) × (r < 4) ⌝ }
+{
+    point[0] * 2 + point[1]
+}
+
+// The card as the first 33 bytes of what is lent: layout, trip point 1 and the enables of 2; then the words of 2.
 fn put_card(card: &mut [u8], values: &[u8])
     requires { ⌜ (33 ≤ length (now card)) × (length (now card) ≤ 64) × (length (now values) ≡ 1024) ⌝ }
     ensures { λ _. ⌜ now (card .exit) ≡ splice (now (card .entry)) 0 (card-of (now (values .entry))) ⌝ }
 {
-    bits::put_field(card, 0, 4, 1);
-    put_point(card, POINT_1, values, place::SETTINGS_1);
-    put_point(card, POINT_2, values, place::SETTINGS_2);
+    let one = point_at(values, place::SETTINGS_1);
+    let two = point_at(values, place::SETTINGS_2);
+    put_first(
+        card,
+        4 + enables(one),
+        one[2],
+        one[3],
+        one[4],
+        one[5],
+        enables(two),
+    );
+    put_words(card, 17, two[2], two[3], two[4], two[5]);
 }
 
 // The 33 bytes of the card, with zeros behind them.
@@ -67,14 +112,44 @@ pub fn card_of(values: &[u8]) -> [u8; 64]
 
 // ---- a card's fields
 
-fn fields_of(card: &[u8], at: usize) -> [u32; 6]
-    requires { ⌜ (at + 130 ≤ 8 * length (now card)) × (at ≤ 134) ⌝ }
-    ensures { λ r. ⌜ r ≡ fields-of (now (card .entry)) at ⌝ }
+// The two low bits of a byte or word, then the 30 high bits of the next.
+fn cut(a: u32, b: u32) -> u32
+    ensures { λ r. ⌜ r ≡ a % 4 * 1073741824 + b / 4 ⌝ }
 {
-    let widths = WIDTHS;
-    let mut fields = [0u32; 6];
-    bits::unpack_fields(card, at, &widths, &mut fields);
-    fields
+    a % 4 * 1073741824 + b / 4
+}
+
+// Of trip point 1, from bit 4 on.
+fn fields_1(card: &[u8]) -> [u32; 6]
+    requires { ⌜ length (now card) ≡ 33 ⌝ }
+    ensures { λ r. ⌜ r ≡ fields-of (now (card .entry)) point-1 ⌝ }
+{
+    let head = wide::to_u32(card[0]);
+    let a = bits::word_at(card, 1);
+    let b = bits::word_at(card, 5);
+    let c = bits::word_at(card, 9);
+    let d = bits::word_at(card, 13);
+    [
+        head / 8 % 2,
+        head / 4 % 2,
+        cut(head, a),
+        cut(a, b),
+        cut(b, c),
+        cut(c, d),
+    ]
+}
+
+// Of trip point 2, from bit 134 on.
+fn fields_2(card: &[u8]) -> [u32; 6]
+    requires { ⌜ length (now card) ≡ 33 ⌝ }
+    ensures { λ r. ⌜ r ≡ fields-of (now (card .entry)) point-2 ⌝ }
+{
+    let head = wide::to_u32(card[16]);
+    let a = bits::word_at(card, 17);
+    let b = bits::word_at(card, 21);
+    let c = bits::word_at(card, 25);
+    let d = bits::word_at(card, 29);
+    [head / 2 % 2, head % 2, a, b, c, d]
 }
 
 // ---- judging
@@ -107,13 +182,40 @@ fn first(a: Verdict, b: Verdict) -> Verdict
     }
 }
 
-fn judge_point(card: &[u8], at: usize) -> Verdict
-    requires { ⌜ (at + 130 ≤ 8 * length (now card)) × (at ≤ 134) ⌝ }
-    ensures { λ r. ⌜ r ≡ point-verdict (fields-of (now (card .entry)) at) ⌝ }
+fn judge_levels(a: u32, b: u32, c: u32, d: u32) -> Verdict
+    ensures { λ r. ⌜ r ≡ first-bad (level-verdict a) (first-bad (level-verdict b) (first-bad (level-verdict c) (level-verdict d))) ⌝ }
 {
-    let fields = fields_of(card, at);
-    let low = first(judge_level(fields[4]), judge_level(fields[5]));
-    first(judge_level(fields[2]), first(judge_level(fields[3]), low))
+    first(
+        judge_level(a),
+        first(judge_level(b), first(judge_level(c), judge_level(d))),
+    )
+}
+
+// Patterns up to that of 1500 are numbers from 0 to 1500.
+const HIGHEST: u32 = 0x44BB8000;
+
+fn plainly_within(fields: [u32; 6]) -> bool
+    ensures { λ r. ⌜ r ≡ plainly-within fields ⌝ }
+{
+    if HIGHEST < fields[2] {
+        return false;
+    }
+    if HIGHEST < fields[3] {
+        return false;
+    }
+    if HIGHEST < fields[4] {
+        return false;
+    }
+    fields[5] <= HIGHEST
+}
+
+fn both_within(one: [u32; 6], two: [u32; 6]) -> bool
+    ensures { λ r. ⌜ r ≡ (plainly-within one && plainly-within two) ⌝ }
+{
+    if plainly_within(one) {
+        return plainly_within(two);
+    }
+    false
 }
 
 // A whole card: layout, levels and hystereses.
@@ -121,18 +223,23 @@ pub fn judge(card: &[u8]) -> Verdict
     requires { ⌜ length (now card) ≡ 33 ⌝ }
     ensures { λ r. ⌜ r ≡ card-verdict (now (card .entry)) ⌝ }
 {
-    let layout = judge_layout(bits::get_field(card, 0, 4));
-    let points = first(judge_point(card, POINT_1), judge_point(card, POINT_2));
-    first(layout, points)
+    let layout = judge_layout(wide::to_u32(card[0]) / 16);
+    let one = fields_1(card);
+    let two = fields_2(card);
+    if both_within(one, two) {
+        return layout;
+    }
+    let point_1 = judge_levels(one[2], one[3], one[4], one[5]);
+    let point_2 = judge_levels(two[2], two[3], two[4], two[5]);
+    first(layout, first(point_1, point_2))
 }
 
 // ---- writing
 
-fn write_point(values: &mut [u8], to: usize, card: &[u8], at: usize)
-    requires { ⌜ (to + 34 ≤ length (now values)) × (at + 130 ≤ 8 * length (now card)) × (at ≤ 134) ⌝ }
-    ensures { λ _. ⌜ now (values .exit) ≡ with-point (now (values .entry)) to (fields-of (now (card .entry)) at) ⌝ }
+fn write_point(values: &mut [u8], to: usize, fields: [u32; 6])
+    requires { ⌜ (to + 34 ≤ length (now values)) × (getD fields 0 0 < 2) × (getD fields 1 0 < 2) ⌝ }
+    ensures { λ _. ⌜ now (values .exit) ≡ with-point (now (values .entry)) to fields ⌝ }
 {
-    let fields = fields_of(card, at);
     wire::put_byte(values, to + place::HIGH_ENABLE, fields[0] as u8);
     wire::put_byte(values, to + place::LOW_ENABLE, fields[1] as u8);
     wire::put_word(values, to + place::HIGH_LEVEL, fields[2]);
@@ -146,6 +253,6 @@ pub fn write(values: &mut [u8], card: &[u8])
     requires { ⌜ (length (now values) ≡ 1024) × (length (now card) ≡ 33) ⌝ }
     ensures { λ _. ⌜ now (values .exit) ≡ with-card (now (values .entry)) (now (card .entry)) ⌝ }
 {
-    write_point(values, place::SETTINGS_1, card, POINT_1);
-    write_point(values, place::SETTINGS_2, card, POINT_2);
+    write_point(values, place::SETTINGS_1, fields_1(card));
+    write_point(values, place::SETTINGS_2, fields_2(card));
 }

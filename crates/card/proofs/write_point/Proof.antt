@@ -1,14 +1,8 @@
--- `write_point` is `with-point`: six numbers, one after the other; an enable is one bit wide.
-use Prim.Native.Nat.{_<_}
-use native.Mathlib.Omega.{arith}
-use lib.ListN.{getD}
-use Rattle.card.proofs.Fields.{fields-lt, point-written}
+-- `write_point` is `with-point`: six numbers, one after the other.
+use Rattle.card.proofs.Fields.{point-written}
 use borrow.Author.Needs.{needs}
 use Rattle.card.proofs.write_point.Statement.{statement}
 use Rattle.card.proofs.write_point.Tie as tie
-
-fields-of-requires : tie.Need-fields-of-requires
-fields-of-requires c κs = search needs
 
 add-put-byte : tie.Need-add-put-byte
 add-put-byte c = search needs
@@ -17,10 +11,7 @@ array-read-put-byte : tie.Need-array-read-put-byte
 array-read-put-byte c = search needs
 
 cast-put-byte : tie.Need-cast-put-byte
-cast-put-byte c =
-    let a = c .before .before .before .before .args in
-    let p : getD (c .before .fields-of .result) 0 0 < 2 = rw (c .before .fields-of .ensures) (fields-lt (a .card .now) (a .at) 0) in
-    omega arith
+cast-put-byte c = search needs
 
 put-byte-requires : tie.Need-put-byte-requires
 put-byte-requires c κs = search needs
@@ -32,10 +23,7 @@ array-read-put-byte-2 : tie.Need-array-read-put-byte-2
 array-read-put-byte-2 c = search needs
 
 cast-put-byte-2 : tie.Need-cast-put-byte-2
-cast-put-byte-2 c =
-    let a = c .before .before .before .before .before .before .before .before .args in
-    let p : getD (c .before .before .before .before .before .fields-of .result) 1 0 < 2 = rw (c .before .before .before .before .before .fields-of .ensures) (fields-lt (a .card .now) (a .at) 1) in
-    omega arith
+cast-put-byte-2 c = search needs
 
 put-byte-requires-2 : tie.Need-put-byte-requires-2
 put-byte-requires-2 c κs = search needs
@@ -81,21 +69,13 @@ same-length c = search needs
 
 returns : tie.Need-returns
 returns c =
-    let w4 = c .before .before in
-    let w3 = w4 .before .before .before .before in
-    let w2 = w3 .before .before .before .before in
-    let w1 = w2 .before .before .before .before in
-    let b2 = w1 .before .before .before .before in
-    let b1 = b2 .before .before .before .before in
-    let f = b1 .before .before in
-    let a = f .before .before .before .args in
-    point-written (a .values .now) _ _ _ _ _ _ _ _ (a .to) (f .fields-of .ensures) (b1 .put-byte .ensures) (b2 .put-byte2 .ensures) (w1 .put-word .ensures) (w2 .put-word2 .ensures) (w3 .put-word3 .ensures) (w4 .put-word4 .ensures)
+    let a = c .before .before .before .before .before .before .before .before .before .before .before .before .before .before .before .before .before .before .before .before .before .before .before .before .before .args in
+    point-written (a .values .now) _ _ _ _ _ _ (a .t3) (a .to) (c .before .before .before .before .before .before .before .before .before .before .before .before .before .before .before .before .before .before .before .before .before .before .put-byte .ensures) (c .before .before .before .before .before .before .before .before .before .before .before .before .before .before .before .before .before .before .put-byte2 .ensures) (c .before .before .before .before .before .before .before .before .before .before .before .before .before .before .put-word .ensures) (c .before .before .before .before .before .before .before .before .before .before .put-word2 .ensures) (c .before .before .before .before .before .before .put-word3 .ensures) (c .before .before .put-word4 .ensures)
 
 pub write-point-spec : {M : Type 1} → statement M
 write-point-spec =
     tie.close
     (tie.spec
-    fields-of-requires
     add-put-byte
     array-read-put-byte
     cast-put-byte

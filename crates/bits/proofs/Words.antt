@@ -1,0 +1,58 @@
+-- Four whole bytes, read and stored with no loop, are a field of 32 bits. Assumes nothing.
+use mathlib.Core.List.{List, _++_}
+use mathlib.Core.Path.{_≡_, sym, _∙_}
+use Prim.Native.Nat.{ℕ, _+_, _*_, _/_, _%_, _<_, _≤_}
+use native.Mathlib.Nat.{div-div-eq-div-mul}
+use native.Mathlib.Omega.{arith}
+use lib.ListN.{length, getD, set, length-set, length-append}
+use Rattle.bits.proofs.Numbers.{length-bits, length-msb, msb-split}
+use Rattle.bits.proofs.Parts.{field-more, byte-get, byte-put}
+use Rattle.bits.specs.Bits.{msb, bits, field}
+use Rattle.wire.proofs.SpliceLaws.{splice-then}
+use Rattle.wire.specs.Splice.{splice}
+
+module _ (s : List ℕ) (at : ℕ) (room : at + 4 ≤ length s) where
+  -- the byte k places on
+  byte : (k p x : ℕ) → k < 4 → 8 * (at + k) ≡ p → x ≡ getD s (at + k) 0 → x < 256 → field (bits s) p 8 ≡ x
+  byte k p x h e g b = rw e at (byte-get s (at + k) (omega arith) (omega arith)) ∙ sym g
+
+  pub four-bytes : (a b c d : ℕ) → a ≡ getD s at 0 → a < 256 → b ≡ getD s (at + 1) 0 → b < 256 → c ≡ getD s (at + 2) 0 → c < 256 → d ≡ getD s (at + 3) 0 → d < 256
+      → a * 16777216 + b * 65536 + c * 256 + d ≡ field (bits s) (8 * at) 32
+  four-bytes a b c d ea la eb lb ec lc ed ld =
+      let n = length-bits s in
+      let p : ℕ = 8 * at in
+      let fa : field (bits s) p 8 ≡ a = byte-get s at (omega arith) (omega arith) ∙ sym ea in
+      let fb : field (bits s) (p + 8) 8 ≡ b = byte 1 (p + 8) b (omega arith) (omega arith) eb lb in
+      let fc : field (bits s) (p + 8 + 8) 8 ≡ c = byte 2 (p + 8 + 8) c (omega arith) (omega arith) ec lc in
+      let fd : field (bits s) (p + 8 + 8 + 8) 8 ≡ d = byte 3 (p + 8 + 8 + 8) d (omega arith) (omega arith) ed ld in
+      sym (field-more (bits s) p 8 24 (omega arith) ∙ rw (fa, field-more (bits s) (p + 8) 8 16 (omega arith), fb, field-more (bits s) (p + 8 + 8) 8 8 (omega arith), fc, fd) (omega arith))
+
+-- one part behind the other
+pub splice-behind : (l : List ℕ) (at : ℕ) (xs ys : List ℕ) (k : ℕ) → at + length xs ≡ k → k + length ys ≤ length l → splice (splice l at xs) k ys ≡ splice l at (xs ++ ys)
+splice-behind l at xs ys k e h = rw e at (splice-then l at xs ys (omega arith))
+
+msb-32 : (v : ℕ) → msb 32 v ≡ ((msb 8 (v / 16777216) ++ msb 8 (v / 65536 % 256)) ++ msb 8 (v / 256 % 256)) ++ msb 8 (v % 256)
+msb-32 v = rw (msb-split 24 8 v, msb-split 16 8 (v / 256), msb-split 8 8 (v / 256 / 256), div-div-eq-div-mul v 256 256, div-div-eq-div-mul v 65536 256)
+
+pub four-stores : (s : List ℕ) (at v : ℕ) → at + 4 ≤ length s
+    → bits (set (set (set (set s at (v / 16777216)) (at + 1) (v / 65536 % 256)) (at + 2) (v / 256 % 256)) (at + 3) (v % 256)) ≡ splice (bits s) (8 * at) (msb 32 v)
+four-stores s at v h =
+    let a : List ℕ = msb 8 (v / 16777216) in
+    let b : List ℕ = msb 8 (v / 65536 % 256) in
+    let c : List ℕ = msb 8 (v / 256 % 256) in
+    let d : List ℕ = msb 8 (v % 256) in
+    let s1 : List ℕ = set s at (v / 16777216) in
+    let s2 : List ℕ = set s1 (at + 1) (v / 65536 % 256) in
+    let s3 : List ℕ = set s2 (at + 2) (v / 256 % 256) in
+    let n : length (bits s) ≡ 8 * length s = length-bits s in
+    let n1 : length s1 ≡ length s = length-set s at _ in
+    let n2 : length s2 ≡ length s = length-set s1 (at + 1) _ ∙ n1 in
+    let n3 : length s3 ≡ length s = length-set s2 (at + 2) _ ∙ n2 in
+    let la : length a ≡ 8 = length-msb 8 _ in
+    let lb : length b ≡ 8 = length-msb 8 _ in
+    let lc : length c ≡ 8 = length-msb 8 _ in
+    let ld : length d ≡ 8 = length-msb 8 _ in
+    let ab : length (a ++ b) ≡ 16 = omega (arith, length-append a b) in
+    let abc : length ((a ++ b) ++ c) ≡ 24 = omega (arith, length-append (a ++ b) c) in
+    byte-put s3 (at + 3) (v % 256) (omega arith)
+    ∙ rw (byte-put s2 (at + 2) (v / 256 % 256) (omega arith), byte-put s1 (at + 1) (v / 65536 % 256) (omega arith), byte-put s at (v / 16777216) (omega arith), splice-behind (bits s) (8 * at) a b (8 * (at + 1)) (omega arith) (omega arith), splice-behind (bits s) (8 * at) (a ++ b) c (8 * (at + 2)) (omega arith) (omega arith), splice-behind (bits s) (8 * at) ((a ++ b) ++ c) d (8 * (at + 3)) (omega arith) (omega arith), msb-32 v)

@@ -1,0 +1,54 @@
+-- What `plainly-within` says: patterns up to that of 1500 are within. Assumes nothing.
+use mathlib.Core.Bool.{true, _&&_}
+use mathlib.Core.Path.{_≡_, refl}
+use mathlib.Core.List.{List}
+use Prim.Native.Nat.{ℕ, _≤_}
+use native.Mathlib.Omega.{arith}
+use lib.Dec.{leb}
+use lib.ListN.{getD}
+use borrow.Author.Tests.{leb-true, lt-ltb}
+use Rattle.wire.proofs.Writes.{and-left, and-right}
+use Rattle.bits.specs.Bits.{bits, field}
+use Rattle.table.specs.Row.{REAL}
+use Rattle.table.specs.Rule.{pick, rank, real-rank}
+use Rattle.entry.specs.Limits.{Patterns, Ordered}
+use Rattle.entry.specs.declared.limits.Verdict.{Verdict}
+use Rattle.entry.specs.declared.limits.Verdict.the-variants.{Within, NotANumber, Above, Below}
+use Rattle.entry.proofs.LimitsLaws.{rank-within}
+use Rattle.card.specs.Card.{point-1, point-2, fields-of, level-verdict, layout-verdict, first-bad, point-verdict, plainly-within, card-verdict}
+
+level-within : (v : ℕ) → v ≤ 0x44BB8000 → level-verdict v ≡ Within
+unfolding level-verdict rank real-rank pick
+level-within v h =
+    let z : Ordered 0 = record { short = omega arith; number = omega arith } in
+    let m : Ordered 0x44BB8000 = record { short = omega arith; number = omega arith } in
+    let p : Patterns 0 0x44BB8000 v = record { lowest = z; highest = m; short = omega arith } in
+    rank-within REAL 0 0x44BB8000 v (omega arith) (λ e. p) (λ e. omega arith) (rw (lt-ltb v 2147483648 (omega arith)) (omega arith)) (rw (lt-ltb v 2147483648 (omega arith)) (omega arith))
+
+within-all : (a b c d : ℕ) → leb a 0x44BB8000 && (leb b 0x44BB8000 && (leb c 0x44BB8000 && leb d 0x44BB8000)) ≡ true
+    → first-bad (level-verdict a) (first-bad (level-verdict b) (first-bad (level-verdict c) (level-verdict d))) ≡ Within
+unfolding first-bad
+within-all a b c d h =
+    let k = and-right (leb a 0x44BB8000) _ h in
+    let l = and-right (leb b 0x44BB8000) _ k in
+    rw (level-within a (leb-true a _ (and-left (leb a 0x44BB8000) _ h)), level-within b (leb-true b _ (and-left (leb b 0x44BB8000) _ k)), level-within c (leb-true c _ (and-left (leb c 0x44BB8000) _ l)), level-within d (leb-true d _ (and-right (leb c 0x44BB8000) _ l)))
+
+plain-point : (fields : List ℕ) → plainly-within fields ≡ true → point-verdict fields ≡ Within
+unfolding plainly-within point-verdict
+plain-point fields h = within-all (getD fields 2 0) (getD fields 3 0) (getD fields 4 0) (getD fields 5 0) h
+
+-- a card both of whose points are plainly within is judged by its layout
+last-within : (x : Verdict) → x ≡ first-bad x (first-bad Within Within)
+unfolding first-bad
+last-within Within = refl
+last-within NotANumber = refl
+last-within Above = refl
+last-within Below = refl
+
+pub plain-card : (card one two : List ℕ) (n : ℕ) (r : Verdict) → one ≡ fields-of card point-1 → two ≡ fields-of card point-2 → n ≡ field (bits card) 0 4
+    → plainly-within one && plainly-within two ≡ true → r ≡ layout-verdict n → r ≡ card-verdict card
+unfolding card-verdict
+plain-card card one two n r e1 e2 en h er =
+    let p : point-verdict (fields-of card point-1) ≡ Within = rw e1 at (plain-point one (and-left (plainly-within one) _ h)) in
+    let q : point-verdict (fields-of card point-2) ≡ Within = rw e2 at (plain-point two (and-right (plainly-within one) _ h)) in
+    rw (p, q, er, en) (last-within _)
