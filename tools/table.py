@@ -83,6 +83,27 @@ def place_rows(rows):
     return place
 
 
+def nv_rows(rows):
+    return [row for row in rows if row["nv"]]
+
+
+def block_width(row):
+    """The bits that an NV entry takes in the saved block."""
+    return 1 if row["kind"] == "BOOL" else 8 * row["len"]
+
+
+def block_starts(rows):
+    """The bit at which each NV entry begins, and the bit behind the last: layout and model come first."""
+    starts = [8]
+    for row in nv_rows(rows):
+        starts.append(starts[-1] + block_width(row))
+    return starts
+
+
+def block_end(rows):
+    return block_starts(rows)[-1]
+
+
 def broken_rules(rows, end):
     """The table's rule, row by row, in words."""
     previous = -1
@@ -112,9 +133,8 @@ def broken_rules(rows, end):
             yield say("is no number, and has limits or a default")
     if end > VALUES:
         yield "the values end at byte %d" % end
-    bits = 8 + sum((1 if r["kind"] == "BOOL" else 8 * r["len"]) for r in rows if r["nv"])
-    if bits > BLOCK_BITS:
-        yield "the saved block needs %d bits" % bits
+    if block_end(rows) > BLOCK_BITS:
+        yield "the saved block needs %d bits" % block_end(rows)
     if len(rows) > 511:
         yield "there are %d rows" % len(rows)
 
@@ -168,7 +188,14 @@ row-count = %d
 -- the row with a number; past the end a row of zeros
 abbrev pub at-row : ℕ → Row
 at-row r = getD rows r no-row
-""" % len(rows))
+
+-- the rows with an NV mark, and the bit of the saved block behind their entries: both are computed in the crate block
+abbrev pub nv-count : ℕ
+nv-count = %d
+
+abbrev pub nv-end : ℕ
+nv-end = %d
+""" % (len(rows), len(nv_rows(rows)), block_end(rows)))
     return "".join(lines)
 
 
@@ -277,6 +304,7 @@ use Prim.Native.Nat.{ℕ}
 def columns_rt(rows, end):
     pairs, numbers = limit_pairs(rows)
     words = default_words(rows, end)
+    nv = nv_rows(rows)
     columns = [
         ("INDEX", "u16", [r["index"] for r in rows]),
         ("SUB", "u8", [r["sub"] for r in rows]),
@@ -291,12 +319,24 @@ def columns_rt(rows, end):
         ("MAXIMUM", "u64", [high for _, high in pairs]),
         ("WORD_PLACE", "u16", [place for place, _ in words]),
         ("WORD", "u32", [word for _, word in words]),
+        ("NV_KIND", "u8", [KINDS.index(r["kind"]) for r in nv]),
+        ("NV_AT", "u16", block_starts(rows)[:-1]),
+        ("NV_WIDTH", "u16", [block_width(r) for r in nv]),
+        ("NV_PLACE", "u16", [r["place"] for r in nv]),
+        ("NV_LOW", "u32", [rank(r, r["low"]) for r in nv]),
+        ("NV_HIGH", "u32", [rank(r, r["high"]) for r in nv]),
     ]
     text = """// The object table as flat constant arrays. tools/table.py writes this file from docs/object-table.md.
 // LIMITS has for each row the number of its limits in MINIMUM and MAXIMUM: few pairs serve all rows, and a column that is
 // read is laid out on the stack, so columns are narrow. WORD_PLACE and WORD have the words that make the defaults out of zeros.
+// NV_.. has the NV rows alone: where the saved block has each entry and how wide, and its limits as places in the order of its type.
 pub const ROWS: usize = %d;
-""" % len(rows)
+
+pub const NV_ROWS: usize = %d;
+
+// The bit of the saved block behind the last entry.
+pub const NV_END: usize = %d;
+""" % (len(rows), len(nv), block_end(rows))
     for name, kind, cells in columns:
         text += "\npub const %s: [%s; %d] = [\n%s];\n" % (name, kind, len(cells), "".join("    %d,\n" % c for c in cells))
     return text
@@ -331,7 +371,7 @@ def main():
     if "--check" in sys.argv and stale:
         sys.exit("not what docs/object-table.md gives (run tools/table.py): " + ", ".join(stale))
     print("%d rows, %d bytes of values, %d bits of the saved block" % (
-        len(rows), end, 8 + sum((1 if r["kind"] == "BOOL" else 8 * r["len"]) for r in rows if r["nv"])))
+        len(rows), end, block_end(rows)))
 
 
 if __name__ == "__main__":

@@ -2,13 +2,14 @@
 use mathlib.Core.List.{List}
 use mathlib.Core.Path.{_≡_, sym, ap, _∙_}
 use Prim.Native.Nat.{ℕ, _+_, _-_, _*_, _/_, _%_, _^_, _≤_, _<_}
-use native.Mathlib.Nat.{one-mul, lt-of-lt-of-le, div-mul-le-self, mod-eq-of-lt}
+use native.Mathlib.Nat.{one-mul, lt-of-lt-of-le, div-mul-le-self, mod-eq-of-lt, mul-assoc, add-zero}
 use native.Mathlib.Omega.{arith}
+use lib.Arith.{digits-lt}
 use lib.Dec.{lit<}
 use lib.ListN.{length, getD, set}
-use lib.Pow.{pow-mono, shl-exact}
+use lib.Pow.{pow-pos, pow-add, pow-mono, shl-exact, shl-shr, shr-shr, shr-lt, low, field as pow-field}
 use Rattle.bits.proofs.Numbers.{length-bits, length-msb, msb-split}
-use Rattle.bits.proofs.Parts.{low-lt, field-more, field-cut, splice-merged, byte-get, byte-put}
+use Rattle.bits.proofs.Parts.{low-lt, field-lt, field-more, field-cut, splice-merged, byte-get, byte-put}
 use Rattle.bits.specs.Bits.{msb, bits, field, merged}
 use Rattle.wire.proofs.SpliceLaws.{splice-front}
 use Rattle.wire.specs.Splice.{splice}
@@ -86,3 +87,72 @@ module _ (s : List ℕ) (at width : ℕ) (h : at + width ≤ 8 * length s) where
       ∙ ap (λ (k : ℕ). splice (bits s) (8 * (at / 8)) (msb k (merged (field (bits s) (8 * (at / 8)) (at % 8 + (width + e))) width e x))) spans
       ∙ splice-merged s (8 * (at / 8)) (at % 8) width e x (omega arith) g
       ∙ ap (λ (j : ℕ). splice (bits s) j (msb width x)) begins
+
+merged-lt : (x o n e v : ℕ) → x < 2 ^ (o + (n + e)) → v < 2 ^ n → merged x n e v < 2 ^ (o + (n + e))
+unfolding merged
+merged-lt x o n e v hx hv = rw (pow-add 2 o (n + e)) (digits-lt (shr-lt o (n + e) hx) (low-lt x n e v hv))
+
+-- a field inside eight bytes
+module _ (s : List ℕ) (at width : ℕ) (h : at / 8 + 8 ≤ length s) (k : width ≤ 32) (x : ℕ) (is : x ≡ field (bits s) (8 * (at / 8)) (8 * (at / 8 + 8 - at / 8))) where
+  abbrev behind : ℕ
+  behind = 64 - at % 8 - width
+
+  starts : 8 * (at / 8) + at % 8 ≡ at
+  starts = omega arith
+
+  eight-is : x ≡ field (bits s) (8 * (at / 8)) (at % 8 + (width + behind))
+  eight-is =
+      let e : 8 * (at / 8 + 8 - at / 8) ≡ at % 8 + (width + behind) = omega arith in
+      is ∙ ap (field (bits s) (8 * (at / 8))) e
+
+  -- shifted up, the bits before the field are lost; shifted down, those behind it
+  pub field-shifted : (x * 2 ^ (at % 8)) % 2 ^ 64 / 2 ^ (64 - width) ≡ field (bits s) at width
+  field-shifted =
+      let n : 64 ≡ width + (64 - width) = omega arith in
+      let m : 64 - width ≡ at % 8 + behind = omega arith in
+      ap (λ (j : ℕ). (x * 2 ^ (at % 8)) % 2 ^ j / 2 ^ (64 - width)) n
+      ∙ pow-field (x * 2 ^ (at % 8)) width (64 - width)
+      ∙ ap (λ (j : ℕ). x * 2 ^ (at % 8) / 2 ^ j % 2 ^ width) m
+      ∙ ap (λ (j : ℕ). j % 2 ^ width) (sym (shr-shr (x * 2 ^ (at % 8)) (at % 8) behind))
+      ∙ ap (λ (j : ℕ). j / 2 ^ behind % 2 ^ width) (shl-shr x (at % 8) ∙ eight-is)
+      ∙ field-cut s (8 * (at / 8)) (at % 8) width behind (omega arith)
+      ∙ ap (λ (j : ℕ). field (bits s) j width) starts
+
+  -- the eight bytes are zero from the field on
+  module _ (v : ℕ) (fits : v < 2 ^ width) (zero-on : field (bits s) at (64 - at % 8) ≡ 0) where
+    ahead : ℕ
+    ahead = field (bits s) (8 * (at / 8)) (at % 8)
+
+    ahead-is : x ≡ ahead * 2 ^ (width + behind)
+    unfolding ahead
+    ahead-is =
+        let e : 64 - at % 8 ≡ width + behind = omega arith in
+        eight-is
+        ∙ field-more (bits s) (8 * (at / 8)) (at % 8) (width + behind) (omega (arith, length-bits s))
+        ∙ omega (arith, sym (ap (λ (j : ℕ). field (bits s) j (width + behind)) starts), ap (field (bits s) at) e)
+
+    shifted : (v * 2 ^ behind) % 2 ^ 64 ≡ v * 2 ^ behind
+    shifted = shl-exact width behind 64 fits (omega arith)
+
+    -- so the value is merged by adding it
+    sum-is : x + (v * 2 ^ behind) % 2 ^ 64 ≡ merged x width behind v
+    unfolding merged
+    sum-is =
+        let n : ℕ = 2 ^ (width + behind) in
+        let up : x / n ≡ ahead = ap (λ (j : ℕ). j / n) ahead-is ∙ shl-shr ahead (width + behind) in
+        let e : x ≡ ahead * 2 ^ width * 2 ^ behind + 0 = ahead-is ∙ ap (λ (j : ℕ). ahead * j) (pow-add 2 width behind) ∙ sym (mul-assoc ahead (2 ^ width) (2 ^ behind)) ∙ sym (add-zero _) in
+        let down : x % 2 ^ behind ≡ 0 = ap (λ (j : ℕ). j % 2 ^ behind) e ∙ low (ahead * 2 ^ width) behind (pow-pos behind) in
+        rw (shifted, up, down) (omega (arith, ahead-is))
+
+    pub sum-fits : x + (v * 2 ^ behind) % 2 ^ 64 < 2 ^ 64
+    sum-fits =
+        let e : at % 8 + (width + behind) ≡ 64 = omega arith in
+        rw sum-is (rw e at (merged-lt x (at % 8) width behind v (rw eight-is (field-lt s (8 * (at / 8)) (at % 8 + (width + behind)))) fits))
+
+    pub field-added : splice (bits s) (8 * (at / 8)) (msb (8 * (at / 8 + 8 - at / 8)) (x + (v * 2 ^ behind) % 2 ^ 64)) ≡ splice (bits s) at (msb width v)
+    field-added =
+        let e : 8 * (at / 8 + 8 - at / 8) ≡ at % 8 + (width + behind) = omega arith in
+        ap (λ (j : ℕ). splice (bits s) (8 * (at / 8)) (msb (8 * (at / 8 + 8 - at / 8)) j)) (sum-is ∙ ap (λ (j : ℕ). merged j width behind v) eight-is)
+        ∙ ap (λ (j : ℕ). splice (bits s) (8 * (at / 8)) (msb j (merged (field (bits s) (8 * (at / 8)) (at % 8 + (width + behind))) width behind v))) e
+        ∙ splice-merged s (8 * (at / 8)) (at % 8) width behind v (omega arith) fits
+        ∙ ap (λ (j : ℕ). splice (bits s) j (msb width v)) starts

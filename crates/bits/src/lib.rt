@@ -1,7 +1,7 @@
 // Fields of bits on packed bytes, most significant bit first: bit k is bit 7 - k % 8 of byte k / 8.
 use wire::wide;
 ghost use mathlib.Core.Path.{_≡_};
-ghost use Prim.Native.Nat.{_+_, _-_, _*_, _%_, _^_, _≤_, _<_};
+ghost use Prim.Native.Nat.{_+_, _-_, _*_, _/_, _%_, _^_, _≤_, _<_};
 ghost use lib.ListN.{length, take, drop};
 ghost use Rattle.wire.specs.Splice.{splice};
 ghost use Rattle.bits.specs.Bits.{bits, field, msb, packed, merged};
@@ -10,7 +10,7 @@ ghost use Rattle.bits.specs.Bits.{bits, field, msb, packed, merged};
 
 // The number that the bytes from first on and before last say, the highest first.
 fn window(s: &[u8], first: usize, last: usize) -> u64
-    requires { ⌜ (first ≤ last) × (last ≤ first + 5) × (last ≤ length (now s)) ⌝ }
+    requires { ⌜ (first ≤ last) × (last ≤ first + 8) × (last ≤ length (now s)) ⌝ }
     ensures { λ r. ⌜ r ≡ field (bits (now (s .entry))) (8 * first) (8 * (last - first)) ⌝ }
 {
     let mut acc: u64 = 0;
@@ -69,6 +69,29 @@ pub fn put_field(s: &mut [u8], at: usize, width: usize, value: u32)
     spread(s, first, last, merge(v, width, low, wide));
 }
 
+// ---- A field with eight bytes of room: a window of one length has no loop left when it is compiled.
+
+// The number in the width bits from bit at on.
+pub fn cut_field(s: &[u8], at: usize, width: usize) -> u32
+    requires { ⌜ (at / 8 + 8 ≤ length (now s)) × (1 ≤ width) × (width ≤ 32) × (at ≤ 4096) ⌝ }
+    ensures { λ r. ⌜ r ≡ field (bits (now (s .entry))) at width ⌝ }
+{
+    let first = at / 8;
+    let x = window(s, first, first + 8);
+    ((x << (at % 8)) >> (64 - width)) as u32
+}
+
+// The value into the width bits from bit at on, where the eight bytes are still zero from there on.
+pub fn add_field(s: &mut [u8], at: usize, width: usize, value: u32)
+    requires { ⌜ (at / 8 + 8 ≤ length (now s)) × (1 ≤ width) × (width ≤ 32) × (at ≤ 4096) × (value < 2 ^ width) × (field (bits (now s)) at (64 - at % 8) ≡ 0) ⌝ }
+    ensures { λ r. ⌜ bits (now (s .exit)) ≡ splice (bits (now (s .entry))) at (msb width value) ⌝ }
+{
+    let first = at / 8;
+    let x = window(s, first, first + 8);
+    let shifted = wide::word_to_u64(value) << (64 - at % 8 - width);
+    spread(s, first, first + 8, x + shifted);
+}
+
 // ---- A field of four whole bytes, with no loop.
 
 pub fn word_at(s: &[u8], at: usize) -> u32
@@ -92,10 +115,9 @@ pub fn put_word(s: &mut [u8], at: usize, v: u32)
     s[at + 3] = (v % 256) as u8;
 }
 
-// ---- Bytes at any bit.
+// ---- Bytes at any bit: copied where that is a whole byte's first, else byte by byte.
 
-// The n bytes of src from a place on, as the bits from bit at on.
-pub fn put_bytes(s: &mut [u8], at: usize, src: &[u8], from: usize, n: usize)
+fn put_across(s: &mut [u8], at: usize, src: &[u8], from: usize, n: usize)
     requires { ⌜ (from + n ≤ length (now src)) × (at + 8 * n ≤ 8 * length (now s)) × (at + 8 * n ≤ 4096) ⌝ }
     ensures { λ r. ⌜ bits (now (s .exit)) ≡ splice (bits (now (s .entry))) at (bits (take n (drop from (now (src .entry))))) ⌝ }
 {
@@ -110,8 +132,19 @@ pub fn put_bytes(s: &mut [u8], at: usize, src: &[u8], from: usize, n: usize)
     }
 }
 
-// The bits from bit at on, as n bytes of dst from a place on.
-pub fn get_bytes(dst: &mut [u8], to: usize, n: usize, s: &[u8], at: usize)
+// The n bytes of src from a place on, as the bits from bit at on.
+pub fn put_bytes(s: &mut [u8], at: usize, src: &[u8], from: usize, n: usize)
+    requires { ⌜ (from + n ≤ length (now src)) × (at + 8 * n ≤ 8 * length (now s)) × (at + 8 * n ≤ 4096) ⌝ }
+    ensures { λ r. ⌜ bits (now (s .exit)) ≡ splice (bits (now (s .entry))) at (bits (take n (drop from (now (src .entry))))) ⌝ }
+{
+    if at % 8 == 0 {
+        wire::copy_at(s, at / 8, src, from, n);
+    } else {
+        put_across(s, at, src, from, n);
+    }
+}
+
+fn get_across(dst: &mut [u8], to: usize, n: usize, s: &[u8], at: usize)
     requires { ⌜ (to + n ≤ length (now dst)) × (at + 8 * n ≤ 8 * length (now s)) × (at + 8 * n ≤ 4096) ⌝ }
     ensures { λ r. ⌜ now (dst .exit) ≡ splice (now (dst .entry)) to (packed n (drop at (bits (now (s .entry))))) ⌝ }
 {
@@ -123,5 +156,17 @@ pub fn get_bytes(dst: &mut [u8], to: usize, n: usize, s: &[u8], at: usize)
         q += 1;
         left -= 1;
         a += 8;
+    }
+}
+
+// The bits from bit at on, as n bytes of dst from a place on.
+pub fn get_bytes(dst: &mut [u8], to: usize, n: usize, s: &[u8], at: usize)
+    requires { ⌜ (to + n ≤ length (now dst)) × (at + 8 * n ≤ 8 * length (now s)) × (at + 8 * n ≤ 4096) ⌝ }
+    ensures { λ r. ⌜ now (dst .exit) ≡ splice (now (dst .entry)) to (packed n (drop at (bits (now (s .entry))))) ⌝ }
+{
+    if at % 8 == 0 {
+        wire::copy_at(dst, to, s, at / 8, n);
+    } else {
+        get_across(dst, to, n, s, at);
     }
 }

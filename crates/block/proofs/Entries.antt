@@ -3,23 +3,25 @@ use mathlib.Core.Bool.{true}
 use mathlib.Core.List.{List, _++_}
 use mathlib.Core.Logic.{⊎-elim}
 use mathlib.Core.Path.{_≡_, refl, sym, ap, _∙_}
-use Prim.Native.Nat.{ℕ, _*_, _^_, _≤_, _<_}
+use Prim.Native.Nat.{ℕ, _+_, _*_, _/_, _^_, _≤_, _<_}
 use native.Mathlib.Nat.{lt-of-lt-of-le}
 use native.Mathlib.Omega.{arith}
 use lib.Dec.{eqb}
-use lib.ListN.{length, take}
+use lib.ListN.{length, take, drop}
 use lib.Pow.{pow-mono}
 use lib.Seq.{take-at, length-take-le}
 use borrow.Author.Tests.{eq-eqb, ne-eqb, le-leb, lt-leb}
 use Rattle.bits.proofs.Numbers.{length-msb, length-bits, num-msb, msb-num, num-lt, small-take, small-msb, small-bits, length-packed, packed-bits, bits-packed}
-use Rattle.bits.specs.Bits.{msb, bits, num, packed, Small, Bytes}
+use Rattle.bits.proofs.Parts.{field-fits}
+use Rattle.bits.specs.Bits.{msb, bits, num, field, packed, Small, Bytes}
+use Rattle.block.specs.Asked.{Sized, number-len, entry-len, held-number, saved-number}
 use Rattle.block.specs.Block.{width, entry-bits, entry-bytes, within}
 use Rattle.entry.proofs.RowLaws.{no-number, bool-within}
 use Rattle.entry.specs.Limits.{verdict-code}
 use Rattle.entry.specs.declared.limits.Verdict.{Verdict}
 use Rattle.entry.specs.declared.limits.Verdict.the-variants.{Within, NotANumber, Above, Below}
 use Rattle.table.proofs.Walks.{lt-or-ge}
-use Rattle.table.specs.Row.{Row, BOOL, REAL}
+use Rattle.table.specs.Row.{Row, BOOL, USINT, UINT, REAL}
 use Rattle.wire.proofs.LittleLaws.{length-little, from-little, little-from, number-lt}
 use Rattle.wire.specs.Little.{little, fromLittle, number}
 
@@ -40,6 +42,10 @@ width-bytes kind len h = rw (ne-eqb kind BOOL (λ e. omega arith))
 -- at most its bytes' bits
 pub width-most : (kind len : ℕ) → 1 ≤ len → width kind len ≤ 8 * len
 width-most kind len h =
+    ⊎-elim (λ g. omega (arith, width-bytes kind len g)) (λ g. omega (arith, width-bool kind len (omega arith))) (lt-or-ge BOOL kind)
+
+pub width-some : (kind len : ℕ) → 1 ≤ len → 1 ≤ width kind len
+width-some kind len h =
     ⊎-elim (λ g. omega (arith, width-bytes kind len g)) (λ g. omega (arith, width-bool kind len (omega arith))) (lt-or-ge BOOL kind)
 
 -- ---- its bits and bytes
@@ -125,7 +131,7 @@ back-entry kind len bs sm room some =
 
 -- ---- its limits
 
-no-code : (x : Verdict) → eqb (verdict-code x) 0 ≡ true → x ≡ Within
+pub no-code : (x : Verdict) → eqb (verdict-code x) 0 ≡ true → x ≡ Within
 unfolding verdict-code
 no-code Within e = refl
 no-code NotANumber e = absurd (let z : _≡_ {A = ℕ} 0 1 = cc in omega arith)
@@ -144,3 +150,82 @@ within-bool r v b h e = bool-within r v b h (no-code _ e)
 -- a number of at most four bytes
 pub number-narrow : (values : List ℕ) (place len : ℕ) → Bytes values → len ≤ 4 → number values place len < 4294967296
 number-narrow values place len hb h = lt-of-lt-of-le (number-lt values place len hb) (pow-mono {j = 32} (omega arith))
+
+-- ---- its number and its bytes, by its type
+
+pub len-word : (kind : ℕ) → UINT < kind → number-len kind ≡ 4
+unfolding number-len
+len-word kind h = rw (lt-leb kind USINT (omega arith), ne-eqb kind UINT (λ e. omega arith))
+
+pub len-pair : (kind : ℕ) → kind ≡ UINT → number-len kind ≡ 2
+unfolding number-len
+len-pair kind e = rw (lt-leb kind USINT (omega arith), eq-eqb kind UINT e)
+
+pub len-byte : (kind : ℕ) → kind ≤ USINT → number-len kind ≡ 1
+unfolding number-len
+len-byte kind h = rw (le-leb kind USINT h)
+
+len-number : (kind w : ℕ) → kind ≤ REAL → entry-len kind w ≡ number-len kind
+unfolding entry-len
+len-number kind w h = rw (le-leb kind REAL h)
+
+pub len-string : (kind w : ℕ) → REAL < kind → entry-len kind w ≡ w / 8
+unfolding entry-len
+len-string kind w h = rw (lt-leb kind REAL h)
+
+module _ (values : List ℕ) (place kind : ℕ) where
+  pub held-none : REAL < kind → 0 ≡ held-number values place kind
+  unfolding held-number
+  held-none h = sym (rw (lt-leb kind REAL h))
+
+  pub held-some : kind ≤ REAL → {v n : ℕ} → v ≡ number values place n → number-len kind ≡ n → v ≡ held-number values place kind
+  unfolding held-number
+  held-some h e l = e ∙ sym (rw (le-leb kind REAL h, l))
+
+module _ (bs : List ℕ) (at kind w : ℕ) where
+  pub saved-none : REAL < kind → 0 ≡ saved-number bs at kind w
+  unfolding saved-number
+  saved-none h = sym (rw (lt-leb kind REAL h))
+
+  pub saved-some : kind ≤ REAL → field bs at w ≡ saved-number bs at kind w
+  unfolding saved-number
+  saved-some h = sym (rw (le-leb kind REAL h))
+
+-- an entry that is taken out of a block, and one that is saved in it
+module _ (kind w : ℕ) (at-width : w ≡ width kind (entry-len kind w)) where
+  pub taken-string : (bs : List ℕ) → REAL < kind → packed (w / 8) bs ≡ entry-bytes kind (entry-len kind w) bs
+  taken-string bs h = ap (λ (n : ℕ). packed n bs) (sym (len-string kind w h)) ∙ sym (bytes-string kind (entry-len kind w) bs h)
+
+  pub taken-number : (bs : List ℕ) (at : ℕ) {v : ℕ} → kind ≤ REAL → v ≡ saved-number bs at kind w → little (number-len kind) v ≡ entry-bytes kind (entry-len kind w) (drop at bs)
+  unfolding field
+  taken-number bs at h e =
+      ap (little (number-len kind)) (e ∙ sym (saved-some bs at kind w h) ∙ ap (λ (k : ℕ). num (take k (drop at bs))) at-width)
+      ∙ ap (λ (n : ℕ). little n (num (take (width kind (entry-len kind w)) (drop at bs)))) (sym (len-number kind w h))
+      ∙ sym (bytes-number kind (entry-len kind w) (drop at bs) h)
+
+  pub saved-string : (values : List ℕ) (place : ℕ) → REAL < kind → bits (take (w / 8) (drop place values)) ≡ entry-bits kind (entry-len kind w) (take (entry-len kind w) (drop place values))
+  saved-string values place h =
+      ap (λ (n : ℕ). bits (take n (drop place values))) (sym (len-string kind w h)) ∙ sym (bits-string kind (entry-len kind w) (take (entry-len kind w) (drop place values)) h)
+
+  pub saved-as-field : (values : List ℕ) (place : ℕ) {v : ℕ} → kind ≤ REAL → v ≡ held-number values place kind → msb w v ≡ entry-bits kind (entry-len kind w) (take (entry-len kind w) (drop place values))
+  unfolding number
+  saved-as-field values place h e =
+      let f : number values place (entry-len kind w) ≡ held-number values place kind = held-some values place kind h refl (sym (len-number kind w h)) in
+      ap (msb w) (e ∙ sym f)
+      ∙ ap (λ (k : ℕ). msb k (number values place (entry-len kind w))) at-width
+      ∙ sym (bits-number kind (entry-len kind w) (take (entry-len kind w) (drop place values)) h)
+
+  module _ {place : ℕ} (z : Sized kind (entry-len kind w) place) where
+    pub entry-some : 1 ≤ w
+    entry-some = omega (arith, width-some kind (entry-len kind w) (z .some))
+
+    pub entry-narrow : kind ≤ REAL → w ≤ 32
+    entry-narrow h = omega (arith, width-most kind (entry-len kind w) (z .some), z .short h)
+
+    pub number-inside : kind ≤ REAL → place + number-len kind ≤ 1024
+    number-inside h = omega (arith, len-number kind w h, z .inside)
+
+    -- the number of a saved entry fits its bytes
+    pub number-fits : (block : List ℕ) (at : ℕ) {v : ℕ} → kind ≤ REAL → v ≡ saved-number (bits block) at kind w → v < 2 ^ (8 * number-len kind)
+    number-fits block at h e =
+        rw (e, ← saved-some (bits block) at kind w h) (field-fits block at w (8 * number-len kind) (omega (arith, len-number kind w h, width-most kind (entry-len kind w) (z .some))))

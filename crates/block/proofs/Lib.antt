@@ -1,6 +1,7 @@
 -- Laws that other crates cite.
 pub mod Entries
 pub mod Kept
+pub mod Judged
 pub mod Walking
 pub mod Turns
 pub mod Zeros

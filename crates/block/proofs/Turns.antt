@@ -1,32 +1,35 @@
--- The turns of the loops over the object table. Assumes nothing.
-use mathlib.Core.Bool.{Bool, true, _&&_}
-use mathlib.Core.List.{List}
-use mathlib.Core.Path.{_≡_, refl, sym, _∙_}
-use Prim.Native.Nat.{ℕ, _+_, _^_, _≤_, _<_}
+-- The turns of the walks over the NV rows. Assumes nothing.
+use mathlib.Core.Bool.{Bool, true, false, cond}
+use mathlib.Core.List.{List, [], _∷_, _++_, map}
+use mathlib.Core.Logic.{⊎-elim}
+use mathlib.Core.Path.{_≡_, refl, sym, ap, _∙_}
+use Prim.Native.Nat.{ℕ, zero, suc, _+_, _*_, _^_, _≤_, _<_}
+use native.Mathlib.Nat.{not-suc-le-zero, le-of-suc-le-suc, add-zero}
+use native.Mathlib.Numerals.{add-one}
 use native.Mathlib.Omega.{arith}
-use lib.ListN.{length, take, drop, getD}
-use Rattle.bits.specs.Bits.{field, Bytes}
+use lib.ListN.{length, take, drop, getD, set, length-map, drop-of-length-le}
+use lib.Seq.{take-suc, take-suc-set, getD-take}
+use borrow.Author.Tests.{le-leb}
+use Rattle.bits.specs.Bits.{bits, field, Bytes}
+use Rattle.block.proofs.Entries.{length-entry, entry-some, entry-narrow}
+use Rattle.block.proofs.Judged.{held-judged, saved-judged}
 use Rattle.block.proofs.Kept.{Kept, kept}
 use Rattle.block.proofs.Tables.{table-keeps, table-used}
-use Rattle.block.proofs.Walking.{and-true, fits, Keeps, nv-keeps, every-drop, nv-skip, widths-here, load-here, values-here, rows-here, saved-here}
-use Rattle.block.specs.Asked.{Marked, Lent, Sized}
-use Rattle.block.specs.Block.{width, entry-bits, entry-bytes, within, nv-rows, widths, saved, load-rows, values-good, rows-good}
+use Rattle.block.proofs.Walking.{Keeps, keeps-at, keeps-take, fits, part-long, length-saved, length-starts, length-numbers, widths-next, widths-all, saved-next, load-next, number-here, held-next, saved-front-next, start-here}
+use Rattle.block.proofs.Zeros.{zero-behind}
+use Rattle.block.specs.Asked.{starts, Fields, Places, Limits, Sized, entry-len, held-number, saved-number, between, held-front, saved-front, saved-numbers, Front}
+use Rattle.block.specs.Block.{width, row-width, part, entry-bits, entry-bytes, within, nv-rows, widths, saved, load-rows, all-zero}
 use Rattle.block.specs.Saved.{nv}
-use Rattle.table.proofs.ColumnLaws.{field-at, column-long}
-use Rattle.table.proofs.Table.{rows-pass, rows-length, row-rule}
-use Rattle.table.proofs.Walks.{both-left}
-use Rattle.table.specs.Row.{Row, REAL}
-use Rattle.table.specs.Rows.{rows, row-count, at-row}
-use Rattle.table.specs.Rule.{row-ok, table-ok}
-use Rattle.table.specs.Walk.{every}
+use Rattle.table.proofs.Table.{rows-pass, row-rule}
+use Rattle.table.proofs.Walks.{lt-or-ge}
+use Rattle.table.specs.Row.{Row, no-row, BOOL, REAL}
+use Rattle.table.specs.Rows.{rows, row-count, at-row, nv-count, nv-end}
+use Rattle.table.specs.Rule.{rank}
+use Rattle.wire.proofs.SpliceLaws.{splice-then, splice-none}
 use Rattle.wire.specs.Little.{number}
 use Rattle.wire.specs.Splice.{splice}
 
--- ---- the table's NV rows keep the rule
-
-pub keeps-from : (i : ℕ) → Keeps (nv-rows (drop i rows))
-unfolding table-ok
-keeps-from i = nv-keeps (drop i rows) (every-drop row-ok rows i (both-left (every row-ok rows) _ rows-pass))
+-- ---- the table's NV rows
 
 pub nv-keep : Keeps nv
 nv-keep = table-keeps rows rows-pass
@@ -37,80 +40,202 @@ used = table-used rows rows-pass
 pub kept-at : (i : ℕ) → i < row-count → at-row i .nv ≡ 1 → Kept (at-row i)
 kept-at i h m = kept (at-row i) (row-rule i h) m
 
--- ---- an NV row that the loop has reached
+-- as many as the code counts, and their entries end where it says
+pub nv-length : length nv ≡ nv-count
+unfolding rows nv-rows
+nv-length = refl
 
-pub record Here (i kind len place : ℕ) : Type 0 where
-  pub there : i < row-count
-  pub mark : at-row i .nv ≡ 1
-  pub kind-is : kind ≡ at-row i .kind
-  pub len-is : len ≡ at-row i .len
-  pub place-is : place ≡ at-row i .place
+pub nv-ends : 8 + widths nv ≡ nv-end
+unfolding rows nv-rows widths width
+nv-ends = refl
 
--- columns are as long as the table
-module _ (marks kinds lens : List ℕ) (lent : Marked marks kinds lens) where
-  pub long : (length marks ≡ row-count) × (length kinds ≡ row-count) × (length lens ≡ row-count)
-  long = (column-long (λ (r : Row). r .nv) marks (lent .marks-are), column-long (λ (r : Row). r .kind) kinds (lent .kinds-are), column-long (λ (r : Row). r .len) lens (lent .lens-are))
+-- ---- a column at row i
 
-  module _ (i : ℕ) (h : i < row-count) where
-    pub here : getD marks i 0 ≡ 1 → {len place : ℕ} → len ≡ getD lens i 0 → place ≡ at-row i .place → Here i (getD kinds i 0) len place
-    here m e p =
-        record {
-          there = h;
-          mark = sym (field-at (λ (r : Row). r .nv) marks i (lent .marks-are)) ∙ m;
-          kind-is = field-at (λ (r : Row). r .kind) kinds i (lent .kinds-are);
-          len-is = e ∙ field-at (λ (r : Row). r .len) lens i (lent .lens-are);
-          place-is = p;
-        }
+abbrev pub at-nv : ℕ → Row
+at-nv i = getD nv i no-row
 
-    pub skip : (getD marks i 0 ≡ 1 → ⊥) → nv-rows (drop i rows) ≡ nv-rows (drop (i + 1) rows)
-    skip d = nv-skip rows i (omega (arith, rows-length)) (λ e. d (field-at (λ (r : Row). r .nv) marks i (lent .marks-are) ∙ e))
+map-at : (f : Row → ℕ) (rs : List Row) (i : ℕ) → i < length rs → getD (map f rs) i 0 ≡ f (getD rs i no-row)
+map-at f [] i h = absurd (not-suc-le-zero h)
+map-at f (r ∷ rs) zero h = refl
+map-at f (r ∷ rs) (suc i) h = map-at f rs i (le-of-suc-le-suc h)
 
-module _ (marks kinds lens places : List ℕ) (lent : Lent marks kinds lens places) where
-  pub places-long : length places ≡ row-count
-  places-long = column-long (λ (r : Row). r .place) places (lent .places-are)
+module _ (f : Row → ℕ) (l : List ℕ) (are : l ≡ map f nv) where
+  column-long : length l ≡ nv-count
+  column-long = ap length are ∙ length-map nv f ∙ nv-length
 
-  pub entry-here : (i : ℕ) → i < row-count → getD marks i 0 ≡ 1 → {len place : ℕ} → len ≡ getD lens i 0 → place ≡ getD places i 0 → Here i (getD kinds i 0) len place
-  entry-here i h m e p = here marks kinds lens (lent .marked) i h m e (p ∙ field-at (λ (r : Row). r .place) places i (lent .places-are))
+  column-at : (i : ℕ) → i < nv-count → getD l i 0 ≡ f (at-nv i)
+  column-at i h = ap (λ (x : List ℕ). getD x i 0) are ∙ map-at f nv i (omega (arith, nv-length))
 
-module _ {i kind len place : ℕ} (g : Here i kind len place) where
-  inside : i < length rows
-  inside = let h = g .there in omega (arith, rows-length)
+module _ {kinds ats widths : List ℕ} (lent : Fields kinds ats widths) where
+  pub fields-long : (length kinds ≡ nv-count) × (length ats ≡ nv-count) × (length widths ≡ nv-count)
+  fields-long =
+      (column-long (λ (r : Row). r .kind) kinds (lent .kinds-are), ap length (lent .ats-are) ∙ length-starts 8 nv ∙ nv-length, column-long (λ (r : Row). row-width r) widths (lent .widths-are))
 
-  row-kept : Kept (at-row i)
-  row-kept = kept-at i (g .there) (g .mark)
+pub places-long : (places : List ℕ) → Places places → length places ≡ nv-count
+places-long places are = column-long (λ (r : Row). r .place) places are
 
-  pub sized : Sized kind len place
-  sized = rw (g .kind-is, g .len-is, g .place-is) (row-kept .sized)
+pub limits-long : (lows highs : List ℕ) → Limits lows highs → (length lows ≡ nv-count) × (length highs ≡ nv-count)
+limits-long lows highs lent =
+    (column-long (λ (r : Row). rank (r .kind) (r .low)) lows (lent .lows-are), column-long (λ (r : Row). rank (r .kind) (r .high)) highs (lent .highs-are))
 
-  pub width-next : widths (nv-rows (drop i rows)) ≡ width kind len + widths (nv-rows (drop (i + 1) rows))
-  width-next = rw (g .kind-is, g .len-is) (widths-here rows i inside (at-row i) refl (g .mark))
+pub place-at : (places : List ℕ) → Places places → (i : ℕ) → i < nv-count → getD places i 0 ≡ at-nv i .place
+place-at places are i h = column-at (λ (r : Row). r .place) places are i h
 
-  pub load-turn : (bs : List ℕ) (at : ℕ) (values : List ℕ)
-      → load-rows bs (at + width kind len) (nv-rows (drop (i + 1) rows)) (splice values place (entry-bytes kind len (drop at bs))) ≡ load-rows bs at (nv-rows (drop i rows)) values
-  load-turn bs at values = rw (g .kind-is, g .len-is, g .place-is) (sym (load-here rows i inside (at-row i) refl (g .mark) bs at values))
+-- ---- an entry that a walk has reached
 
-  -- an answer says whether the entry is within its limits
-  pub values-turn : (values : List ℕ) {answer b : Bool} → answer ≡ within (at-row i) (number values place len) → answer ≡ b
-      → values-good values (nv-rows (drop i rows)) ≡ (b && values-good values (nv-rows (drop (i + 1) rows)))
-  values-turn values e f = values-here rows i inside (at-row i) refl (g .mark) values (sym (rw (g .len-is, g .place-is) at e) ∙ f)
+pub record Here (i kind at width : ℕ) : Type 0 where
+  pub there : i < nv-count
+  pub kind-is : kind ≡ at-nv i .kind
+  pub at-is : at ≡ 8 + widths (take i nv)
+  pub width-is : width ≡ row-width (at-nv i)
 
-  pub rows-turn : (bs : List ℕ) (at w : ℕ) {answer b : Bool} → w ≡ width kind len → answer ≡ within (at-row i) (field bs at w) → answer ≡ b
-      → rows-good bs at (nv-rows (drop i rows)) ≡ (b && rows-good bs (at + w) (nv-rows (drop (i + 1) rows)))
-  rows-turn bs at w n e f =
-      let m : w ≡ width (at-row i .kind) (at-row i .len) = n ∙ (rw (g .kind-is, g .len-is)) in
-      rw m (rows-here rows i inside (at-row i) refl (g .mark) bs at (sym (rw m at e) ∙ f))
+pub here : {kinds ats widths : List ℕ} → Fields kinds ats widths → (i : ℕ) → i < nv-count → {at width : ℕ} → at ≡ getD ats i 0 → width ≡ getD widths i 0 → Here i (getD kinds i 0) at width
+here {kinds} {ats} {widths} lent i h e f =
+    record {
+      there = h;
+      kind-is = column-at (λ (r : Row). r .kind) kinds (lent .kinds-are) i h;
+      at-is = e ∙ ap (λ (x : List ℕ). getD x i 0) (lent .ats-are) ∙ start-here nv i (omega (arith, nv-length)) 8;
+      width-is = f ∙ column-at (λ (r : Row). row-width r) widths (lent .widths-are) i h;
+    }
 
-  pub save-turn : (l values : List ℕ) (at : ℕ) → length values ≡ 1024 → at + widths (nv-rows (drop i rows)) ≤ length l
-      → splice (splice l at (entry-bits kind len (take len (drop place values)))) (at + width kind len) (saved values (nv-rows (drop (i + 1) rows))) ≡ splice l at (saved values (nv-rows (drop i rows)))
-  save-turn l values at e room =
-      rw (g .kind-is, g .len-is, g .place-is) (saved-here rows i inside (at-row i) refl (g .mark) l values at (keeps-from i) e room)
+module _ {i kind at width' : ℕ} (g : Here i kind at width') where
+  inside : i < length nv
+  inside = let h = g .there in omega (arith, nv-length)
 
-  -- an NV value within its limits fits its width
-  pub fits-turn : (values : List ℕ) → Bytes values → values-good values (nv-rows (drop i rows)) ≡ true
-      → (kind ≤ REAL → number values place len < 2 ^ width kind len) × (values-good values (nv-rows (drop (i + 1) rows)) ≡ true)
-  unfolding number
-  fits-turn values hb e =
-      let p : (within (at-row i) (number values place len) ≡ true) × (values-good values (nv-rows (drop (i + 1) rows)) ≡ true) =
-      and-true _ _ (sym (values-turn values refl refl) ∙ e) in
-      let q : within (at-row i) (number values (at-row i .place) (at-row i .len)) ≡ true = rw (g .len-is, g .place-is) at (p .0) in
-      ((λ h. rw (g .kind-is, g .len-is, g .place-is) (fits values (at-row i) row-kept hb q)), p .1)
+  row-kept : Kept (at-nv i)
+  row-kept = keeps-at nv i nv-keep inside
+
+  len-here : at-nv i .len ≡ entry-len kind width'
+  len-here = row-kept .len-is ∙ ap (λ (k : ℕ). entry-len k (row-width (at-nv i))) (sym (g .kind-is)) ∙ ap (entry-len kind) (sym (g .width-is))
+
+  pub width-here : width' ≡ width kind (entry-len kind width')
+  width-here = g .width-is ∙ ap (λ (k : ℕ). width k (at-nv i .len)) (sym (g .kind-is)) ∙ ap (width kind) len-here
+
+  pub sized-here : {place : ℕ} → place ≡ at-nv i .place → Sized kind (entry-len kind width') place
+  sized-here p = rw (← len-here, g .kind-is, p) (row-kept .sized)
+
+  pub room : at + width' ≤ nv-end
+  room = let a = g .at-is in let w = g .width-is in omega (arith, widths-all nv i inside, nv-ends)
+
+  pub some : 1 ≤ width'
+  some = entry-some kind width' width-here (sized-here refl)
+
+  pub narrow : kind ≤ REAL → width' ≤ 32
+  narrow h = entry-narrow kind width' width-here (sized-here refl) h
+
+  -- ---- the walks
+
+  -- the numbers
+  saved-is : (bs : List ℕ) → saved-number bs at kind width' ≡ getD (saved-numbers bs 8 nv) i 0
+  saved-is bs = rw (g .kind-is, g .at-is, g .width-is) (sym (number-here nv i inside bs 8))
+
+  numbers-long : (bs : List ℕ) → i < length (saved-numbers bs 8 nv)
+  numbers-long bs = let h = inside in omega (arith, length-numbers bs 8 nv)
+
+  pub numbers-turn : (bs numbers : List ℕ) {v : ℕ} → i < length numbers → v ≡ saved-number bs at kind width' → Front bs numbers i → Front bs (set numbers i v) (i + 1)
+  numbers-turn bs numbers {v} h e f =
+      let s : List ℕ = saved-numbers bs 8 nv in
+      rw (add-one i)
+      (take-suc-set numbers i v h
+      ∙ ap (λ (l : List ℕ). l ++ (v ∷ [])) f
+      ∙ ap (λ (x : ℕ). take i s ++ (x ∷ [])) (e ∙ saved-is bs)
+      ∙ sym (take-suc s i 0 (numbers-long bs)))
+
+  pub number-known : (bs numbers : List ℕ) (n : ℕ) → i < n → Front bs numbers n → getD numbers i 0 ≡ saved-number bs at kind width'
+  number-known bs numbers n h f =
+      sym (getD-take n numbers i 0 h) ∙ ap (λ (l : List ℕ). getD l i 0) f ∙ getD-take n (saved-numbers bs 8 nv) i 0 h ∙ sym (saved-is bs)
+
+  -- the limits: an answer by rank is the row's
+  module _ {lows highs : List ℕ} (lent : Limits lows highs) (v : ℕ) {answer b : Bool} (says : answer ≡ between (getD lows i 0) (getD highs i 0) (rank kind v)) (is : answer ≡ b) where
+    low-here : getD lows i 0 ≡ rank (at-nv i .kind) (at-nv i .low)
+    low-here = column-at (λ (r : Row). rank (r .kind) (r .low)) lows (lent .lows-are) i (g .there)
+
+    high-here : getD highs i 0 ≡ rank (at-nv i .kind) (at-nv i .high)
+    high-here = column-at (λ (r : Row). rank (r .kind) (r .high)) highs (lent .highs-are) i (g .there)
+
+    by-rank : (x : ℕ) → v ≡ x → between (rank (at-nv i .kind) (at-nv i .low)) (rank (at-nv i .kind) (at-nv i .high)) (rank (at-nv i .kind) x) ≡ b
+    by-rank x e = sym (says ∙ rw (low-here, high-here, g .kind-is, e)) ∙ is
+
+    pub held-within : (values : List ℕ) {place : ℕ} → place ≡ at-nv i .place → Bytes values → v ≡ held-number values place kind → within (at-nv i) (number values (at-nv i .place) (at-nv i .len)) ≡ b
+    held-within values p hb e = sym (held-judged (at-nv i) row-kept values hb) ∙ by-rank _ (e ∙ rw (p, g .kind-is))
+
+    pub saved-within : (block : List ℕ) → v ≡ saved-number (bits block) at kind width' → within (at-nv i) (field (bits block) (8 + widths (take i nv)) (row-width (at-nv i))) ≡ b
+    saved-within block e = sym (saved-judged (at-nv i) row-kept block (8 + widths (take i nv))) ∙ by-rank _ (e ∙ rw (g .at-is, g .width-is, g .kind-is))
+
+  -- how far the good ones go
+  pub saved-on : (bs : List ℕ) → within (at-nv i) (field bs (8 + widths (take i nv)) (row-width (at-nv i))) ≡ true → saved-front bs 8 nv ≡ i + saved-front bs (8 + widths (take i nv)) (drop i nv)
+      → saved-front bs 8 nv ≡ i + 1 + saved-front bs (8 + widths (take (i + 1) nv)) (drop (i + 1) nv)
+  saved-on bs e f =
+      let w : 8 + widths (take i nv) + row-width (at-nv i) ≡ 8 + widths (take (i + 1) nv) = omega (arith, widths-next nv i inside) in
+      omega (arith, f, saved-front-next nv i inside bs (8 + widths (take i nv)) e, ap (λ (k : ℕ). saved-front bs k (drop (i + 1) nv)) w)
+
+  pub saved-stop : (bs : List ℕ) → within (at-nv i) (field bs (8 + widths (take i nv)) (row-width (at-nv i))) ≡ false → saved-front bs 8 nv ≡ i + saved-front bs (8 + widths (take i nv)) (drop i nv) → i ≡ saved-front bs 8 nv
+  saved-stop bs e f = omega (arith, f, saved-front-next nv i inside bs (8 + widths (take i nv)) e)
+
+  pub held-on : (values : List ℕ) → within (at-nv i) (number values (at-nv i .place) (at-nv i .len)) ≡ true → held-front values nv ≡ i + held-front values (drop i nv) → held-front values nv ≡ i + 1 + held-front values (drop (i + 1) nv)
+  held-on values e f = omega (arith, f, held-next nv i inside values e)
+
+  pub held-stop : (values : List ℕ) → within (at-nv i) (number values (at-nv i .place) (at-nv i .len)) ≡ false → held-front values nv ≡ i + held-front values (drop i nv) → i ≡ held-front values nv
+  held-stop values e f = omega (arith, f, held-next nv i inside values e)
+
+  -- an entry is taken
+  pub take-turn : {place : ℕ} → place ≡ at-nv i .place → (bs first : List ℕ) {values after : List ℕ} → values ≡ load-rows bs 8 (take i nv) first
+      → after ≡ splice values place (entry-bytes kind (entry-len kind width') (drop at bs)) → after ≡ load-rows bs 8 (take (i + 1) nv) first
+  take-turn p bs first e f = f ∙ rw (e, p, ← len-here, g .kind-is, g .at-is) (sym (load-next nv i inside bs 8 first))
+
+  -- an entry is saved: it fits its width, the block is zero from there on, and one more is in it
+  module _ {place : ℕ} (p : place ≡ at-nv i .place) (values : List ℕ) (lv : length values ≡ 1024) where
+    pub fits-here : Bytes values → within (at-nv i) (number values (at-nv i .place) (at-nv i .len)) ≡ true → {v : ℕ} → v ≡ held-number values place kind → kind ≤ REAL → v < 2 ^ width'
+    unfolding held-number number
+    fits-here hb e f h =
+        let k : at-nv i .kind ≤ REAL = let q = g .kind-is in omega arith in
+        rw (f, le-leb kind REAL h, g .width-is, p, g .kind-is, ← row-kept .number-is k) (fits values (at-nv i) row-kept hb e)
+
+    before-long : length (saved values (take i nv)) ≡ widths (take i nv)
+    before-long = length-saved values (take i nv) (keeps-take nv i nv-keep) lv
+
+    pub zero-here : (l : List ℕ) {bs : List ℕ} → length l ≡ 4096 → all-zero (drop 8 l) ≡ true → bs ≡ splice l 8 (saved values (take i nv)) → all-zero (drop at bs) ≡ true
+    zero-here l n z e =
+        let k : at ≡ 8 + length (saved values (take i nv)) = let q = g .at-is in omega (arith, before-long) in
+        rw (e, k) (zero-behind l (saved values (take i nv)) (omega arith) z)
+
+    pub save-turn : (l : List ℕ) {bs after : List ℕ} → length l ≡ 4096 → bs ≡ splice l 8 (saved values (take i nv))
+        → after ≡ splice bs at (entry-bits kind (entry-len kind width') (take (entry-len kind width') (drop place values))) → after ≡ splice l 8 (saved values (take (i + 1) nv))
+    save-turn l n e f =
+        let own : List ℕ = entry-bits (at-nv i .kind) (at-nv i .len) (part values (at-nv i)) in
+        let m : length own ≡ row-width (at-nv i) = length-entry (at-nv i .kind) (at-nv i .len) (part values (at-nv i)) (part-long values (at-nv i) row-kept lv) in
+        let k : at ≡ 8 + length (saved values (take i nv)) = let q = g .at-is in omega (arith, before-long) in
+        f
+        ∙ rw (e, p, ← len-here, g .kind-is, k)
+        (splice-then l 8 (saved values (take i nv)) own (let q = g .at-is in let w = g .width-is in omega (arith, room, before-long))
+        ∙ ap (splice l 8) (sym (saved-next nv i inside values)))
+
+-- ---- the ends of the walks
+
+module _ (i : ℕ) (most : i ≤ nv-count) (all : (i < nv-count) → ⊥) where
+  none-left : drop i nv ≡ []
+  none-left = drop-of-length-le nv {i = i} (omega (arith, nv-length, all-passed))
+    where
+      all-passed : nv-count ≤ i
+      all-passed = ⊎-elim (λ l. absurd (all l)) (λ x. x) (lt-or-ge i nv-count)
+
+  pub saved-end : (bs : List ℕ) → saved-front bs 8 nv ≡ i + saved-front bs (8 + widths (take i nv)) (drop i nv) → i ≡ saved-front bs 8 nv
+  unfolding saved-front
+  saved-end bs f = sym (f ∙ (rw (none-left) (add-zero i)))
+
+  pub held-end : (values : List ℕ) → held-front values nv ≡ i + held-front values (drop i nv) → i ≡ held-front values nv
+  unfolding held-front
+  held-end values f = sym (f ∙ (rw (none-left) (add-zero i)))
+
+-- ---- their beginnings
+
+pub saved-begin : (bs : List ℕ) → saved-front bs 8 nv ≡ 0 + saved-front bs (8 + widths (take 0 nv)) (drop 0 nv)
+unfolding widths
+saved-begin bs = omega arith
+
+pub held-begin : (values : List ℕ) → held-front values nv ≡ 0 + held-front values (drop 0 nv)
+held-begin values = omega arith
+
+pub save-begin : (l values : List ℕ) → l ≡ splice l 8 (saved values (take 0 nv))
+unfolding saved
+save-begin l values = sym (splice-none l 8)

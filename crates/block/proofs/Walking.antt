@@ -1,18 +1,20 @@
 -- The walk over the NV rows of any table: what one row more comes to, and what the rule says of them. Assumes nothing.
 use mathlib.Core.Bool.{Bool, true, false, _&&_, cond}
-use mathlib.Core.List.{List, [], _∷_}
+use mathlib.Core.List.{List, [], _∷_, _++_, append-assoc, append-nil}
 use mathlib.Core.Logic.{⊎-elim, _⊎_, inl, inr}
 use mathlib.Core.Path.{_≡_, refl, sym, ap, _∙_}
 use Prim.Native.Nat.{ℕ, zero, suc, _+_, _*_, _^_, _≤_, _<_}
+use native.Mathlib.Nat.{not-suc-le-zero, le-of-suc-le-suc, add-zero, add-assoc}
 use native.Mathlib.Numerals.{add-one}
 use native.Mathlib.Omega.{arith}
 use lib.Dec.{T, eqb}
-use lib.ListN.{length, drop, getD, length-append, length-take, length-drop, drop-of-length-le}
-use lib.Seq.{drop-cons}
+use lib.ListN.{length, take, drop, getD, length-append, length-take, length-drop, take-append-drop}
+use lib.Seq.{drop-cons, take-suc}
 use borrow.Author.Tests.{eq-eqb, ne-eqb, eqb-true, eqb-false}
 use Rattle.bits.specs.Bits.{field, Bytes}
 use Rattle.block.proofs.Entries.{width-bool, width-bytes, length-entry, within-bool}
 use Rattle.block.proofs.Kept.{Kept, kept}
+use Rattle.block.specs.Asked.{starts, saved-number, held-front, saved-front, saved-numbers}
 use Rattle.block.specs.Block.{width, row-width, part, entry-bits, entry-bytes, within, nv-rows, widths, saved, load-rows, values-good, rows-good}
 use Rattle.table.proofs.Rules.{row-ok→rule}
 use Rattle.table.proofs.Walks.{both-left, both-right, lt-or-ge}
@@ -20,7 +22,6 @@ use Rattle.table.specs.Row.{Row, no-row, BOOL}
 use Rattle.table.specs.Rule.{pick, block-bits, block-sum, row-ok}
 use Rattle.table.specs.Walk.{every}
 use Rattle.wire.proofs.LittleLaws.{number-lt}
-use Rattle.wire.proofs.SpliceLaws.{splice-then}
 use Rattle.wire.specs.Little.{fromLittle, number}
 use Rattle.wire.specs.Splice.{splice}
 
@@ -45,23 +46,11 @@ pub nv-other : (r : Row) (rs : List Row) → (r .nv ≡ 1 → ⊥) → nv-rows (
 unfolding nv-rows
 nv-other r rs d = rw (ne-eqb (r .nv) 1 d)
 
-pub nv-end : (rs : List Row) (i : ℕ) → length rs ≤ i → nv-rows (drop i rs) ≡ []
-unfolding nv-rows
-nv-end rs i h = ap nv-rows (drop-of-length-le rs {i = i} h)
-
 -- ---- what the rule says of the NV rows
 
 unfoldable pub Keeps : List Row → Type 0
 Keeps [] = Unit
 Keeps (r ∷ rs) = Kept r × Keeps rs
-
-pub keeps-first : (r : Row) (rs : List Row) → Keeps (r ∷ rs) → Kept r
-unfolding Keeps
-keeps-first r rs k = k .0
-
-pub keeps-rest : (r : Row) (rs : List Row) → Keeps (r ∷ rs) → Keeps rs
-unfolding Keeps
-keeps-rest r rs k = k .1
 
 pub nv-keeps : (rs : List Row) → T (every row-ok rs) → Keeps (nv-rows rs)
 unfolding every nv-rows Keeps
@@ -74,11 +63,17 @@ nv-keeps (r ∷ rs) t =
     (λ d. rw (nv-other r rs d) rest)
     (one-or-not (r .nv))
 
-pub every-drop : (f : Row → Bool) (rs : List Row) (i : ℕ) → T (every f rs) → T (every f (drop i rs))
-unfolding every
-every-drop f rs zero t = t
-every-drop f [] (suc i) t = t
-every-drop f (r ∷ rs) (suc i) t = every-drop f rs i (both-right (f r) (every f rs) t)
+pub keeps-at : (rs : List Row) (i : ℕ) → Keeps rs → i < length rs → Kept (getD rs i no-row)
+unfolding Keeps
+keeps-at [] i k h = absurd (not-suc-le-zero h)
+keeps-at (r ∷ rs) zero k h = k .0
+keeps-at (r ∷ rs) (suc i) k h = keeps-at rs i (k .1) (le-of-suc-le-suc h)
+
+pub keeps-take : (rs : List Row) (i : ℕ) → Keeps rs → Keeps (take i rs)
+unfolding Keeps
+keeps-take rs zero k = tt
+keeps-take [] (suc i) k = tt
+keeps-take (r ∷ rs) (suc i) k = (k .0, keeps-take rs i (k .1))
 
 -- the NV rows' bits are those that the table counts
 pick-cond : (b : Bool) (m n : ℕ) → pick b m n ≡ cond b m n
@@ -126,54 +121,132 @@ fits values r k hb e =
     rw (width-bool (r .kind) (r .len) b) (omega (arith, within-bool r (number values (r .place) (r .len)) b (k .bool-high b) e)))
     (lt-or-ge BOOL (r .kind))
 
--- ---- one row more, at row i of a table
+-- ---- rows one after the other
+
+widths-append : (xs ys : List Row) → widths (xs ++ ys) ≡ widths xs + widths ys
+unfolding widths
+widths-append [] ys = omega arith
+widths-append (x ∷ xs) ys = omega (arith, widths-append xs ys)
+
+saved-append : (values : List ℕ) (xs ys : List Row) → saved values (xs ++ ys) ≡ saved values xs ++ saved values ys
+unfolding saved
+saved-append values [] ys = refl
+saved-append values (x ∷ xs) ys =
+    ap (λ (l : List ℕ). entry-bits (x .kind) (x .len) (part values x) ++ l) (saved-append values xs ys)
+    ∙ sym (append-assoc (entry-bits (x .kind) (x .len) (part values x)) (saved values xs) (saved values ys))
+
+load-append : (bs : List ℕ) (at : ℕ) (xs ys : List Row) (values : List ℕ) → load-rows bs at (xs ++ ys) values ≡ load-rows bs (at + widths xs) ys (load-rows bs at xs values)
+unfolding load-rows widths
+load-append bs at [] ys values = ap (λ (k : ℕ). load-rows bs k ys values) (sym (add-zero at))
+load-append bs at (x ∷ xs) ys values =
+    load-append bs (at + row-width x) xs ys (splice values (x .place) (entry-bytes (x .kind) (x .len) (drop at bs)))
+    ∙ ap (λ (k : ℕ). load-rows bs k ys (load-rows bs (at + row-width x) xs (splice values (x .place) (entry-bytes (x .kind) (x .len) (drop at bs))))) (add-assoc at (row-width x) (widths xs))
+
+numbers-at : (bs : List ℕ) (at : ℕ) (rs : List Row) (i : ℕ) → i < length rs → getD (saved-numbers bs at rs) i 0 ≡ saved-number bs (at + widths (take i rs)) (getD rs i no-row .kind) (row-width (getD rs i no-row))
+unfolding saved-numbers widths
+numbers-at bs at [] i h = absurd (not-suc-le-zero h)
+numbers-at bs at (r ∷ rs) zero h = ap (λ (k : ℕ). saved-number bs k (r .kind) (row-width r)) (sym (add-zero at))
+numbers-at bs at (r ∷ rs) (suc i) h =
+    numbers-at bs (at + row-width r) rs i (le-of-suc-le-suc h)
+    ∙ ap (λ (k : ℕ). saved-number bs k (getD rs i no-row .kind) (row-width (getD rs i no-row))) (add-assoc at (row-width r) (widths (take i rs)))
+
+pub length-numbers : (bs : List ℕ) (at : ℕ) (rs : List Row) → length (saved-numbers bs at rs) ≡ length rs
+unfolding saved-numbers
+length-numbers bs at [] = refl
+length-numbers bs at (r ∷ rs) = ap suc (length-numbers bs (at + row-width r) rs)
+
+starts-at : (at : ℕ) (rs : List Row) (i : ℕ) → i < length rs → getD (starts at rs) i 0 ≡ at + widths (take i rs)
+unfolding starts widths
+starts-at at [] i h = absurd (not-suc-le-zero h)
+starts-at at (r ∷ rs) zero h = sym (add-zero at)
+starts-at at (r ∷ rs) (suc i) h = starts-at (at + row-width r) rs i (le-of-suc-le-suc h) ∙ add-assoc at (row-width r) (widths (take i rs))
+
+pub length-starts : (at : ℕ) (rs : List Row) → length (starts at rs) ≡ length rs
+unfolding starts
+length-starts at [] = refl
+length-starts at (r ∷ rs) = ap suc (length-starts (at + row-width r) rs)
+
+-- ---- how far the good ones go
+
+same-suc : (m n : ℕ) → eqb m n ≡ eqb (suc m) (suc n)
+same-suc m n = go (eqb m n) refl
+  where
+    go : (b : Bool) → eqb m n ≡ b → b ≡ eqb (suc m) (suc n)
+    go true e = sym (eq-eqb (suc m) (suc n) (ap suc (eqb-true m n e)))
+    go false e = sym (ne-eqb (suc m) (suc n) (λ q. eqb-false m n e (omega arith)))
+
+one-good : (b c : Bool) (m n : ℕ) → c ≡ eqb m n → (b && c) ≡ eqb (cond b (suc m) 0) (suc n)
+one-good true c m n e = e ∙ same-suc m n
+one-good false c m n e = sym (ne-eqb 0 (suc n) (λ q. omega arith))
+
+pub held-all-good : (values : List ℕ) (rs : List Row) → values-good values rs ≡ eqb (held-front values rs) (length rs)
+unfolding values-good held-front
+held-all-good values [] = refl
+held-all-good values (r ∷ rs) =
+    one-good (within r (number values (r .place) (r .len))) (values-good values rs) (held-front values rs) (length rs) (held-all-good values rs)
+
+pub saved-all-good : (bs : List ℕ) (at : ℕ) (rs : List Row) → rows-good bs at rs ≡ eqb (saved-front bs at rs) (length rs)
+unfolding rows-good saved-front
+saved-all-good bs at [] = refl
+saved-all-good bs at (r ∷ rs) =
+    one-good (within r (field bs at (row-width r))) (rows-good bs (at + row-width r) rs) (saved-front bs (at + row-width r) rs) (length rs) (saved-all-good bs (at + row-width r) rs)
+
+one-most : (b : Bool) (m n : ℕ) → m ≤ n → cond b (suc m) 0 ≤ suc n
+one-most true m n h = omega arith
+one-most false m n h = omega arith
+
+pub held-most : (values : List ℕ) (rs : List Row) → held-front values rs ≤ length rs
+unfolding held-front
+held-most values [] = omega arith
+held-most values (r ∷ rs) = one-most (within r (number values (r .place) (r .len))) (held-front values rs) (length rs) (held-most values rs)
+
+pub front-most : (bs : List ℕ) (at : ℕ) (rs : List Row) → saved-front bs at rs ≤ length rs
+unfolding saved-front
+front-most bs at [] = omega arith
+front-most bs at (r ∷ rs) =
+    one-most (within r (field bs at (row-width r))) (saved-front bs (at + row-width r) rs) (length rs) (front-most bs (at + row-width r) rs)
+
+-- ---- one row more
 
 module _ (rs : List Row) (i : ℕ) (h : i < length rs) where
-  nv-here : getD rs i no-row .nv ≡ 1 → nv-rows (drop i rs) ≡ getD rs i no-row ∷ nv-rows (drop (i + 1) rs)
-  nv-here e = rw (add-one i, drop-cons rs i no-row h) (nv-cons (getD rs i no-row) (drop (suc i) rs) e)
+  abbrev here : Row
+  here = getD rs i no-row
 
-  pub nv-skip : (getD rs i no-row .nv ≡ 1 → ⊥) → nv-rows (drop i rs) ≡ nv-rows (drop (i + 1) rs)
-  nv-skip d = rw (add-one i, drop-cons rs i no-row h) (nv-other (getD rs i no-row) (drop (suc i) rs) d)
+  one-more : take (i + 1) rs ≡ take i rs ++ (here ∷ [])
+  one-more = rw (add-one i) (take-suc rs i no-row h)
 
-  module _ (r : Row) (is : r ≡ getD rs i no-row) (mark : r .nv ≡ 1) where
-    here : nv-rows (drop i rs) ≡ r ∷ nv-rows (drop (i + 1) rs)
-    here = rw is (nv-here (rw is at mark))
+  left-over : drop i rs ≡ here ∷ drop (i + 1) rs
+  left-over = rw (add-one i) (drop-cons rs i no-row h)
 
-    pub widths-here : widths (nv-rows (drop i rs)) ≡ row-width r + widths (nv-rows (drop (i + 1) rs))
-    unfolding widths
-    widths-here = ap widths here
+  pub widths-next : widths (take (i + 1) rs) ≡ widths (take i rs) + row-width here
+  unfolding widths
+  widths-next = ap widths one-more ∙ widths-append (take i rs) (here ∷ []) ∙ ap (λ (k : ℕ). widths (take i rs) + k) (add-zero (row-width here))
 
-    pub load-here : (bs : List ℕ) (at : ℕ) (values : List ℕ)
-        → load-rows bs at (nv-rows (drop i rs)) values ≡ load-rows bs (at + row-width r) (nv-rows (drop (i + 1) rs)) (splice values (r .place) (entry-bytes (r .kind) (r .len) (drop at bs)))
-    unfolding load-rows
-    load-here bs at values = ap (λ (l : List Row). load-rows bs at l values) here
+  pub widths-all : widths (take i rs) + row-width here ≤ widths rs
+  widths-all = omega (arith, widths-next, ap widths (take-append-drop (i + 1) rs), widths-append (take (i + 1) rs) (drop (i + 1) rs))
 
-    pub values-here : (values : List ℕ) {b : Bool} → within r (number values (r .place) (r .len)) ≡ b
-        → values-good values (nv-rows (drop i rs)) ≡ (b && values-good values (nv-rows (drop (i + 1) rs)))
-    unfolding values-good
-    values-here values e = ap (values-good values) here ∙ ap (λ (x : Bool). x && values-good values (nv-rows (drop (i + 1) rs))) e
+  pub saved-next : (values : List ℕ) → saved values (take (i + 1) rs) ≡ saved values (take i rs) ++ entry-bits (here .kind) (here .len) (part values here)
+  unfolding saved
+  saved-next values = ap (saved values) one-more ∙ saved-append values (take i rs) (here ∷ []) ∙ ap (λ (l : List ℕ). saved values (take i rs) ++ l) (append-nil _)
 
-    pub rows-here : (bs : List ℕ) (at : ℕ) {b : Bool} → within r (field bs at (row-width r)) ≡ b
-        → rows-good bs at (nv-rows (drop i rs)) ≡ (b && rows-good bs (at + row-width r) (nv-rows (drop (i + 1) rs)))
-    unfolding rows-good
-    rows-here bs at e = ap (rows-good bs at) here ∙ ap (λ (x : Bool). x && rows-good bs (at + row-width r) (nv-rows (drop (i + 1) rs))) e
+  pub load-next : (bs : List ℕ) (at : ℕ) (values : List ℕ)
+      → load-rows bs at (take (i + 1) rs) values ≡ splice (load-rows bs at (take i rs) values) (here .place) (entry-bytes (here .kind) (here .len) (drop (at + widths (take i rs)) bs))
+  unfolding load-rows
+  load-next bs at values = ap (λ (l : List Row). load-rows bs at l values) one-more ∙ load-append bs at (take i rs) (here ∷ []) values
 
-    pub saved-here : (l values : List ℕ) (at : ℕ) → Keeps (nv-rows (drop i rs)) → length values ≡ 1024 → at + widths (nv-rows (drop i rs)) ≤ length l
-        → splice (splice l at (entry-bits (r .kind) (r .len) (part values r))) (at + row-width r) (saved values (nv-rows (drop (i + 1) rs))) ≡ splice l at (saved values (nv-rows (drop i rs)))
-    unfolding saved
-    saved-here l values at k e room =
-        let rest : List Row = nv-rows (drop (i + 1) rs) in
-        let kk : Keeps (r ∷ rest) = rw here at k in
-        let own : List ℕ = entry-bits (r .kind) (r .len) (part values r) in
-        let n : length own ≡ row-width r = length-entry (r .kind) (r .len) (part values r) (part-long values r (keeps-first r rest kk) e) in
-        ap (λ (w : ℕ). splice (splice l at own) (at + w) (saved values rest)) (sym n)
-        ∙ splice-then l at own (saved values rest) (omega (arith, length-saved values rest (keeps-rest r rest kk) e, widths-here))
-        ∙ ap (λ (x : List Row). splice l at (saved values x)) (sym here)
+  pub number-here : (bs : List ℕ) (at : ℕ) → getD (saved-numbers bs at rs) i 0 ≡ saved-number bs (at + widths (take i rs)) (here .kind) (row-width here)
+  number-here bs at = numbers-at bs at rs i h
 
--- the end of the walk over the bits
-pub ended : (bs : List ℕ) (at : ℕ) {all : ℕ} {g : Bool} {rs : List Row} → at + widths rs ≡ all → rows-good bs at rs ≡ g → rs ≡ [] → at ≡ cond g all 0
-unfolding widths rows-good
-ended bs at {all} {g} e p z =
-    let n : at + 0 ≡ all = rw z at e in
-    let t : true ≡ g = rw z at p in
-    rw (← t) (omega arith)
+  -- an answer says whether the entry is within its limits
+  pub held-next : (values : List ℕ) {b : Bool} → within here (number values (here .place) (here .len)) ≡ b
+      → held-front values (drop i rs) ≡ cond b (suc (held-front values (drop (i + 1) rs))) 0
+  unfolding held-front
+  held-next values e = ap (held-front values) left-over ∙ ap (λ (x : Bool). cond x (suc (held-front values (drop (i + 1) rs))) 0) e
+
+  pub saved-front-next : (bs : List ℕ) (at : ℕ) {b : Bool} → within here (field bs at (row-width here)) ≡ b
+      → saved-front bs at (drop i rs) ≡ cond b (suc (saved-front bs (at + row-width here) (drop (i + 1) rs))) 0
+  unfolding saved-front
+  saved-front-next bs at e = ap (saved-front bs at) left-over ∙ ap (λ (x : Bool). cond x (suc (saved-front bs (at + row-width here) (drop (i + 1) rs))) 0) e
+
+  pub start-here : (at : ℕ) → getD (starts at rs) i 0 ≡ at + widths (take i rs)
+  start-here at = starts-at at rs i h

@@ -1,19 +1,23 @@
--- What the calls of `is_good` and `store` say, put together. Over plain variables. Assumes nothing.
+-- What the calls of `load`, `store` and `is_good` say, put together. Over plain variables. Assumes nothing.
 use mathlib.Core.Bool.{Bool, true, false, cond, _&&_}
 use mathlib.Core.List.{List, _∷_, _++_, append-assoc}
 use mathlib.Core.Path.{_≡_, refl, sym, ap, _∙_}
-use Prim.Native.Nat.{ℕ, zero, suc, _+_, _-_, _*_, _≤_}
+use Prim.Native.Nat.{ℕ, zero, suc, _+_, _-_, _*_, _≤_, _<_}
 use native.Mathlib.Omega.{arith}
-use lib.Dec.{eqb}
-use lib.ListN.{length, drop, replicate, length-append, length-replicate, replicate-append-replicate}
+use lib.Dec.{eqb, ltb}
+use lib.ListN.{length, take, drop, replicate, length-append, length-replicate, replicate-append-replicate}
+use lib.Seq.{take-all}
 use borrow.Author.Tests.{eq-eqb, ne-eqb}
 use Rattle.bits.proofs.Numbers.{length-msb, bytes-of}
 use Rattle.bits.specs.Bits.{msb, bits, field, packed, Bytes}
-use Rattle.block.proofs.Turns.{nv-keep, used}
-use Rattle.block.proofs.Walking.{length-saved}
-use Rattle.block.proofs.Zeros.{zero-field}
+use Rattle.block.proofs.Turns.{nv-keep, used, nv-length, nv-ends}
+use Rattle.block.proofs.Walking.{length-saved, held-all-good, saved-all-good, held-most, front-most}
+use Rattle.block.proofs.Zeros.{zero-field, and-last}
+use Rattle.block.specs.Asked.{held-front, saved-front}
 use Rattle.block.specs.Block.{LAYOUT, BAG552, widths, saved, load-rows, values-good, rows-good, all-zero, block-of, good}
 use Rattle.block.specs.Saved.{nv, storable, stored, loadable, loaded}
+use Rattle.table.specs.Row.{Row}
+use Rattle.table.specs.Rows.{nv-count, nv-end}
 use Rattle.wire.proofs.SpliceLaws.{splice-then}
 use Rattle.wire.specs.Splice.{splice}
 
@@ -25,40 +29,52 @@ rest-zero bs end first {n} h e =
     let k : end + (8 * first - end) ≡ 8 * first = omega arith in
     zero-field bs end (8 * first - end) e ∙ ap (λ (j : ℕ). eqb n 0 && all-zero (drop j bs)) k
 
--- ---- is the block good?
+-- ---- how many entries a load takes
 
-end-zero : (b : Bool) (m : ℕ) → cond b (8 + m) 0 ≡ 0 → b ≡ false
-end-zero true m e = absurd (omega arith)
-end-zero false m e = refl
+taken-none : (b : Bool) → false ≡ b → 0 ≡ cond b nv-count 0
+taken-none b e = rw (← e)
 
-end-some : (b : Bool) (m : ℕ) → (cond b (8 + m) 0 ≡ 0 → ⊥) → b ≡ true
-end-some true m d = refl
-end-some false m d = absurd (d refl)
+taken-all : (b : Bool) → true ≡ b → nv-count ≡ cond b nv-count 0
+taken-all b e = rw (← e)
+
+and-none : (a b : Bool) → b ≡ false → (a && b) ≡ false
+and-none true b e = e
+and-none false b e = refl
 
 module _ (block : List ℕ) {layout model : ℕ} (is-layout : layout ≡ field (bits block) 0 4) (is-model : model ≡ field (bits block) 4 4) where
-  pub layout-bad : (layout ≡ LAYOUT → ⊥) → false ≡ loadable block
+  pub layout-bad : (layout ≡ LAYOUT → ⊥) → 0 ≡ cond (loadable block) nv-count 0
   unfolding loadable good
-  layout-bad d = sym (rw (← is-layout, ne-eqb layout LAYOUT d))
+  layout-bad d = taken-none (loadable block) (sym (rw (← is-layout, ne-eqb layout LAYOUT d)))
 
-  pub model-bad : layout ≡ LAYOUT → (model ≡ BAG552 → ⊥) → false ≡ loadable block
+  pub model-bad : layout ≡ LAYOUT → (model ≡ BAG552 → ⊥) → 0 ≡ cond (loadable block) nv-count 0
   unfolding loadable good
-  model-bad e d = sym (rw (← is-layout, ← is-model, eq-eqb layout LAYOUT e, ne-eqb model BAG552 d))
+  model-bad e d = taken-none (loadable block) (sym (rw (← is-layout, ← is-model, eq-eqb layout LAYOUT e, ne-eqb model BAG552 d)))
 
-  module _ (e : layout ≡ LAYOUT) (f : model ≡ BAG552) {end : ℕ} (is-end : end ≡ cond (rows-good (bits block) 8 nv) (8 + widths nv) 0) where
-    pub entry-bad : end ≡ 0 → false ≡ loadable block
+  module _ (e : layout ≡ LAYOUT) (f : model ≡ BAG552) {rest : Bool} (is-rest : rest ≡ all-zero (drop nv-end (bits block))) where
+    by-parts : loadable block ≡ (rows-good (bits block) 8 nv && rest)
     unfolding loadable good
-    entry-bad z = sym (rw (← is-layout, ← is-model, eq-eqb layout LAYOUT e, eq-eqb model BAG552 f, end-zero (rows-good (bits block) 8 nv) (widths nv) (sym is-end ∙ z)))
+    by-parts =
+        rw (← is-layout, ← is-model, eq-eqb layout LAYOUT e, eq-eqb model BAG552 f)
+        (ap (λ (k : ℕ). rows-good (bits block) 8 nv && all-zero (drop k (bits block))) nv-ends ∙ ap (λ (b : Bool). rows-good (bits block) 8 nv && b) (sym is-rest))
 
-    module _ (d : end ≡ 0 → ⊥) where
-      all-good : rows-good (bits block) 8 nv ≡ true
-      all-good = end-some (rows-good (bits block) 8 nv) (widths nv) (λ z. d (is-end ∙ z))
+    pub rest-bad : rest ≡ false → 0 ≡ cond (loadable block) nv-count 0
+    rest-bad z = taken-none (loadable block) (sym (by-parts ∙ and-none (rows-good (bits block) 8 nv) rest z))
 
-      pub end-is : end ≡ 8 + widths nv
-      end-is = is-end ∙ (rw all-good)
+    module _ (z : rest ≡ true) {front : ℕ} (is-front : front ≡ saved-front (bits block) 8 nv) where
+      by-front : loadable block ≡ eqb front nv-count
+      by-front =
+          by-parts ∙ ap (λ (b : Bool). rows-good (bits block) 8 nv && b) z ∙ sym (and-last _)
+          ∙ saved-all-good (bits block) 8 nv
+          ∙ ap (λ (k : ℕ). eqb k (length nv)) (sym is-front)
+          ∙ ap (eqb front) nv-length
 
-      pub rest-decides : {b : Bool} → b ≡ all-zero (drop end (bits block)) → b ≡ loadable block
-      unfolding loadable good
-      rest-decides p = p ∙ sym (rw (← is-layout, ← is-model, eq-eqb layout LAYOUT e, eq-eqb model BAG552 f, all-good, ← end-is))
+      pub entry-bad : front < nv-count → 0 ≡ cond (loadable block) nv-count 0
+      entry-bad h = taken-none (loadable block) (sym (by-front ∙ ne-eqb front nv-count (λ q. omega arith)))
+
+      pub all-taken : nv-count ≤ front → front ≡ cond (loadable block) nv-count 0
+      all-taken h =
+          let q : front ≡ nv-count = omega (arith, front-most (bits block) 8 nv, nv-length) in
+          q ∙ taken-all (loadable block) (sym (by-front ∙ eq-eqb front nv-count q))
 
 -- ---- the block that is stored
 
@@ -112,36 +128,59 @@ stored-bits values e =
 bytes-with : (block : List ℕ) {bs : List ℕ} → Bytes block → length block ≡ 512 → bits block ≡ bs → block ≡ packed 512 bs
 bytes-with block h n e = sym (bytes-of block h) ∙ ap (λ (k : ℕ). packed k (bits block)) n ∙ ap (packed 512) e
 
-module _ (values block : List ℕ) {answer : Bool} (says : answer ≡ values-good values nv) where
-  pub store-refused : answer ≡ false → (false ≡ storable values) × (block ≡ stored values block)
-  unfolding storable stored
-  store-refused e =
-      let n : false ≡ values-good values nv = sym e ∙ says in
-      (n, sym (rw (← n)))
+module _ (values block : List ℕ) {n : ℕ} (is-front : n ≡ held-front values nv) where
+  by-front-held : values-good values nv ≡ eqb n nv-count
+  by-front-held = held-all-good values nv ∙ ap (λ (k : ℕ). eqb k (length nv)) (sym is-front) ∙ ap (eqb n) nv-length
 
-  pub store-done : answer ≡ true → length values ≡ 1024 → length block ≡ 512 → (cleared one two done : List ℕ) → cleared ≡ replicate (length block) 0
-      → bits one ≡ splice (bits cleared) 0 (msb 4 LAYOUT) → bits two ≡ splice (bits one) 4 (msb 4 BAG552) → bits done ≡ splice (bits two) 8 (saved values nv)
-      → Bytes done → length done ≡ 512 → (true ≡ storable values) × (done ≡ stored values block)
+  pub store-refused : n < nv-count → (false ≡ storable values) × (block ≡ stored values block)
   unfolding storable stored
-  store-done e lv lb cleared one two done a b c d h l =
-      let n : true ≡ values-good values nv = sym e ∙ says in
-      let z : cleared ≡ replicate 512 0 = a ∙ ap (λ (k : ℕ). replicate {A = ℕ} k 0) lb in
-      let w : bits done ≡ block-of BAG552 values nv =
-      d ∙ ap (λ (x : List ℕ). splice x 8 (saved values nv)) (c ∙ ap (λ (x : List ℕ). splice x 4 (msb 4 BAG552)) (b ∙ ap (λ (x : List ℕ). splice (bits x) 0 (msb 4 LAYOUT)) z))
-      ∙ stored-bits values lv in
-      (n, bytes-with done h l w ∙ sym (rw (← n)))
+  store-refused h =
+      let e : values-good values nv ≡ false = by-front-held ∙ ne-eqb n nv-count (λ q. omega arith) in
+      (sym e, sym (rw e))
+
+  pub store-done : nv-count ≤ n → length values ≡ 1024 → {fresh done : List ℕ} → bits fresh ≡ splice (splice (splice (bits (replicate 512 0)) 0 (msb 4 LAYOUT)) 4 (msb 4 BAG552)) 8 (saved values (take n nv))
+      → done ≡ fresh → Bytes done → length done ≡ 512 → (true ≡ storable values) × (done ≡ stored values block)
+  unfolding storable stored
+  store-done h lv {fresh} {done} w d hb l =
+      let q : n ≡ nv-count = omega (arith, held-most values nv, nv-length) in
+      let e : values-good values nv ≡ true = by-front-held ∙ eq-eqb n nv-count q in
+      let z : take n nv ≡ nv = take-all n nv (omega (arith, nv-length)) in
+      let f : bits done ≡ block-of BAG552 values nv = ap bits d ∙ w ∙ rw z (stored-bits values lv) in
+      (sym e, bytes-with done hb l f ∙ sym (rw e))
 
 -- ---- the values that are loaded
 
-module _ (block values : List ℕ) {answer : Bool} (says : answer ≡ loadable block) where
-  pub load-refused : answer ≡ false → (false ≡ loadable block) × (values ≡ loaded block values)
-  unfolding loaded
-  load-refused e =
-      let n : false ≡ loadable block = sym e ∙ says in
-      (n, sym (rw (← n)))
+some-of : (b : Bool) → ltb 0 (cond b nv-count 0) ≡ b
+some-of true = refl
+some-of false = refl
 
-  pub load-taken : answer ≡ true → {after : List ℕ} → after ≡ load-rows (bits block) 8 nv values → (true ≡ loadable block) × (after ≡ loaded block values)
-  unfolding loaded
-  load-taken e p =
-      let n : true ≡ loadable block = sym e ∙ says in
-      (n, p ∙ sym (rw (← n)))
+-- a block is good where a load takes something
+pub some-taken : (block : List ℕ) {n : ℕ} → n ≡ cond (loadable block) nv-count 0 → ltb 0 n ≡ loadable block
+some-taken block e = ap (ltb 0) e ∙ some-of (loadable block)
+
+rows-taken : (b : Bool) (bs values : List ℕ) → load-rows bs 8 (take (cond b nv-count 0) nv) values ≡ cond b (load-rows bs 8 nv values) values
+unfolding load-rows
+rows-taken true bs values = ap (λ (l : List Row). load-rows bs 8 l values) (take-all nv-count nv (omega (arith, nv-length)))
+rows-taken false bs values = refl
+
+pub load-done : (block values : List ℕ) {n : ℕ} → n ≡ cond (loadable block) nv-count 0 → {after : List ℕ} → after ≡ load-rows (bits block) 8 (take n nv) values → (ltb 0 n ≡ loadable block) × (after ≡ loaded block values)
+unfolding loaded
+load-done block values e p =
+    (some-taken block e, p ∙ ap (λ (k : ℕ). load-rows (bits block) 8 (take k nv) values) e ∙ rows-taken (loadable block) (bits block) values)
+
+pub taken-most : (block : List ℕ) {n : ℕ} → n ≡ cond (loadable block) nv-count 0 → n ≤ nv-count
+taken-most block e = rw e (most (loadable block))
+  where
+    most : (b : Bool) → cond b nv-count 0 ≤ nv-count
+    most true = omega arith
+    most false = omega arith
+
+-- ---- a block without entries
+
+pub header-only : (cleared one two : List ℕ) → cleared ≡ replicate 512 0 → bits one ≡ splice (bits cleared) 0 (msb 4 LAYOUT) → bits two ≡ splice (bits one) 4 (msb 4 BAG552)
+    → bits two ≡ splice (splice (bits (replicate 512 0)) 0 (msb 4 LAYOUT)) 4 (msb 4 BAG552)
+header-only cleared one two z b c = c ∙ ap (λ (x : List ℕ). splice x 4 (msb 4 BAG552)) (b ∙ ap (λ (x : List ℕ). splice (bits x) 0 (msb 4 LAYOUT)) z)
+
+pub no-entries : all-zero (drop 8 (splice (splice (bits (replicate 512 0)) 0 (msb 4 LAYOUT)) 4 (msb 4 BAG552))) ≡ true
+unfolding all-zero splice bits msb
+no-entries = refl

@@ -1,26 +1,32 @@
 -- The laws of bits that are all zero, by fields and by bytes. Assumes nothing.
 use mathlib.Core.Bool.{Bool, true, false, _&&_}
-use mathlib.Core.List.{List, [], _∷_, _++_}
+use mathlib.Core.List.{List, [], _∷_, _++_, append-assoc}
 use mathlib.Core.Path.{_≡_, refl, sym, ap, _∙_}
 use Prim.Native.Nat.{ℕ, zero, suc, _+_, _*_, _≤_, _<_}
 use native.Mathlib.Numerals.{add-one}
 use native.Mathlib.Omega.{arith}
 use lib.Dec.{eqb}
-use lib.ListN.{length, take, drop, getD, replicate, take-append-drop, drop-of-length-le}
-use lib.Seq.{drop-cons, drop-drop, drop-at}
-use borrow.Author.Tests.{ne-eqb, eqb-true}
+use lib.ListN.{length, take, drop, getD, replicate, take-append-drop, drop-of-length-le, length-append}
+use lib.Seq.{drop-cons, drop-drop, drop-at, length-take-le}
+use borrow.Author.Tests.{eq-eqb, ne-eqb, eqb-true}
+use Rattle.bits.proofs.Copying.{bits-drop}
 use Rattle.bits.proofs.Numbers.{length-msb, num-msb}
 use Rattle.bits.specs.Bits.{msb, bits, num-from, num, field, Bytes}
 use Rattle.block.proofs.Walking.{and-true}
 use Rattle.block.specs.Block.{all-zero}
+use Rattle.wire.specs.Splice.{splice}
 
 and-assoc : (a b c : Bool) → ((a && b) && c) ≡ (a && (b && c))
 and-assoc true b c = refl
 and-assoc false b c = refl
 
-and-last : (a : Bool) → a ≡ (a && true)
+pub and-last : (a : Bool) → a ≡ (a && true)
 and-last true = refl
 and-last false = refl
+
+and-false : (a : Bool) → (a && false) ≡ false
+and-false true = refl
+and-false false = refl
 
 pub zero-append : (xs ys : List ℕ) → all-zero (xs ++ ys) ≡ (all-zero xs && all-zero ys)
 unfolding all-zero
@@ -54,14 +60,6 @@ zero-field bs at w {n} e =
     ∙ ap (λ (l : List ℕ). eqb n 0 && all-zero l) (drop-drop w at bs)
 
 -- a byte, and what comes after it
-pub bits-drop : (s : List ℕ) (i : ℕ) → drop (8 * i) (bits s) ≡ bits (drop i s)
-unfolding bits
-bits-drop s zero = refl
-bits-drop [] (suc i) = drop-of-length-le [] {i = 8 * suc i} (omega arith)
-bits-drop (x ∷ s) (suc i) =
-    let e : 8 * suc i ≡ 8 + 8 * i = omega arith in
-    rw e (sym (drop-drop (8 * i) 8 (msb 8 x ++ bits s)) ∙ ap (drop (8 * i)) (drop-at (msb 8 x) (bits s) 8 (length-msb 8 x)) ∙ bits-drop s i)
-
 pub zero-byte : (s : List ℕ) (i : ℕ) → i < length s → Bytes s → all-zero (drop (8 * i) (bits s)) ≡ (eqb (getD s i 0) 0 && all-zero (drop (8 * (i + 1)) (bits s)))
 unfolding bits
 zero-byte s i h b =
@@ -70,6 +68,35 @@ zero-byte s i h b =
     ∙ ap (λ (x : Bool). x && all-zero (bits (drop (suc i) s))) (sym (zero-num (msb 8 (getD s i 0))) ∙ ap (λ (n : ℕ). eqb n 0) (num-msb 8 (getD s i 0) (b i)))
     ∙ ap (λ (k : ℕ). eqb (getD s i 0) 0 && all-zero (bits (drop k s))) (sym (add-one i))
     ∙ ap (λ (l : List ℕ). eqb (getD s i 0) 0 && all-zero l) (sym (bits-drop s (i + 1)))
+
+zero-drop : (n : ℕ) (bs : List ℕ) → all-zero bs ≡ true → all-zero (drop n bs) ≡ true
+unfolding all-zero
+zero-drop zero bs e = e
+zero-drop (suc n) [] e = e
+zero-drop (suc n) (b ∷ bs) e = zero-drop n bs (and-true (eqb b 0) (all-zero bs) e .1)
+
+-- what is behind bits that were put from bit 8 on
+pub zero-behind : (l xs : List ℕ) → 8 ≤ length l → all-zero (drop 8 l) ≡ true → all-zero (drop (8 + length xs) (splice l 8 xs)) ≡ true
+unfolding splice
+zero-behind l xs h e =
+    let n : length (take 8 l ++ xs) ≡ 8 + length xs = omega (arith, length-append (take 8 l) xs, length-take-le 8 l h) in
+    ap all-zero
+    (ap (drop (8 + length xs)) (sym (append-assoc (take 8 l) xs (drop (8 + length xs) l)))
+    ∙ drop-at (take 8 l ++ xs) (drop (8 + length xs) l) (8 + length xs) n
+    ∙ sym (drop-drop (length xs) 8 l))
+    ∙ zero-drop (length xs) (drop 8 l) e
+
+-- a field of zeros says 0
+pub zero-said : (bs : List ℕ) (at w : ℕ) → all-zero (drop at bs) ≡ true → field bs at w ≡ 0
+zero-said bs at w e = eqb-true (field bs at w) 0 (and-true _ _ (sym (zero-field bs at w refl) ∙ e) .0)
+
+-- the greatest byte so far, with one more
+pub most-more : (m b : ℕ) (z : Bool) → m < b → (eqb b 0 && z) ≡ (eqb m 0 && (eqb b 0 && z))
+most-more m b z h = rw (ne-eqb b 0 (λ e. omega arith)) (sym (and-false (eqb m 0)))
+
+pub most-same : (m b : ℕ) (z : Bool) → b ≤ m → (eqb m 0 && z) ≡ (eqb m 0 && (eqb b 0 && z))
+most-same zero b z h = rw (eq-eqb b 0 (omega arith))
+most-same (suc m) b z h = rw (ne-eqb (suc m) 0 (λ e. omega arith))
 
 -- past the end there is nothing
 pub zero-end : (bs : List ℕ) (k : ℕ) → length bs ≤ k → true ≡ all-zero (drop k bs)

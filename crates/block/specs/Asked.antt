@@ -1,19 +1,46 @@
--- What the parts of the code ask, of the columns lent, of the table and of an entry.
-use mathlib.Core.List.{List}
+-- What the parts of the code ask and give: of the columns lent, of an entry, of a walk over the NV rows.
+use mathlib.Core.Bool.{Bool, cond, _&&_}
+use mathlib.Core.List.{List, [], _∷_, map}
 use mathlib.Core.Path.{_≡_}
-use Prim.Native.Nat.{ℕ, _+_, _≤_}
-use Rattle.table.specs.Columns.{column}
-use Rattle.table.specs.Row.{Row, REAL}
+use Prim.Native.Nat.{ℕ, suc, _+_, _/_, _≤_}
+use lib.Dec.{leb, eqb}
+use lib.ListN.{take}
+use Rattle.bits.specs.Bits.{field}
+use Rattle.block.specs.Block.{row-width, within}
+use Rattle.block.specs.Saved.{nv}
+use Rattle.table.specs.Row.{Row, USINT, UINT, REAL}
+use Rattle.table.specs.Rule.{rank}
+use Rattle.wire.specs.Little.{number}
 
--- columns of the table
-pub record Marked (marks kinds lens : List ℕ) : Type 0 where
-  pub marks-are : marks ≡ column (λ (r : Row). r .nv)
-  pub kinds-are : kinds ≡ column (λ (r : Row). r .kind)
-  pub lens-are : lens ≡ column (λ (r : Row). r .len)
+-- ---- the columns of the NV rows
 
-pub record Lent (marks kinds lens places : List ℕ) : Type 0 where
-  pub marked : Marked marks kinds lens
-  pub places-are : places ≡ column (λ (r : Row). r .place)
+-- the bit at which each entry begins, the first at bit at
+unfoldable pub starts : ℕ → List Row → List ℕ
+starts at [] = []
+starts at (r ∷ rs) = at ∷ starts (at + row-width r) rs
+
+pub record Fields (kinds ats widths : List ℕ) : Type 0 where
+  pub kinds-are : kinds ≡ map (λ (r : Row). r .kind) nv
+  pub ats-are : ats ≡ starts 8 nv
+  pub widths-are : widths ≡ map (λ (r : Row). row-width r) nv
+
+abbrev pub Places : List ℕ → Type 0
+Places places = places ≡ map (λ (r : Row). r .place) nv
+
+-- limits, as places in the order of the type
+pub record Limits (lows highs : List ℕ) : Type 0 where
+  pub lows-are : lows ≡ map (λ (r : Row). rank (r .kind) (r .low)) nv
+  pub highs-are : highs ≡ map (λ (r : Row). rank (r .kind) (r .high)) nv
+
+-- ---- an entry
+
+-- the bytes of a number that the block can hold, by its type
+unfoldable pub number-len : ℕ → ℕ
+number-len kind = cond (leb kind USINT) 1 (cond (eqb kind UINT) 2 4)
+
+-- the bytes of an entry, by its type and its bits
+unfoldable pub entry-len : ℕ → ℕ → ℕ
+entry-len kind width = cond (leb kind REAL) (number-len kind) (width / 8)
 
 -- an entry whose bytes lie in the values
 pub record Sized (kind len place : ℕ) : Type 0 where
@@ -21,3 +48,33 @@ pub record Sized (kind len place : ℕ) : Type 0 where
   pub some : 1 ≤ len
   pub short : kind ≤ REAL → len ≤ 4
   pub inside : place + len ≤ 1024
+
+-- its number, in the values and in the bits; a string has none, and 0 stands for it
+unfoldable pub held-number : List ℕ → ℕ → ℕ → ℕ
+held-number values place kind = cond (leb kind REAL) (number values place (number-len kind)) 0
+
+unfoldable pub saved-number : List ℕ → ℕ → ℕ → ℕ → ℕ
+saved-number bs at kind width = cond (leb kind REAL) (field bs at width) 0
+
+unfoldable pub between : ℕ → ℕ → ℕ → Bool
+between low high x = leb low x && leb x high
+
+-- ---- a walk
+
+-- how many entries stand before the first that is outside its limits, in the values and in the bits
+unfoldable pub held-front : List ℕ → List Row → ℕ
+held-front values [] = 0
+held-front values (r ∷ rs) = cond (within r (number values (r .place) (r .len))) (suc (held-front values rs)) 0
+
+unfoldable pub saved-front : List ℕ → ℕ → List Row → ℕ
+saved-front bs at [] = 0
+saved-front bs at (r ∷ rs) = cond (within r (field bs at (row-width r))) (suc (saved-front bs (at + row-width r) rs)) 0
+
+-- the entries' numbers
+unfoldable pub saved-numbers : List ℕ → ℕ → List Row → List ℕ
+saved-numbers bs at [] = []
+saved-numbers bs at (r ∷ rs) = saved-number bs at (r .kind) (row-width r) ∷ saved-numbers bs (at + row-width r) rs
+
+-- the first n of them are known
+abbrev pub Front : List ℕ → List ℕ → ℕ → Type 0
+Front bs numbers n = take n numbers ≡ take n (saved-numbers bs 8 nv)

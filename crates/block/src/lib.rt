@@ -1,197 +1,233 @@
 // The saved block of the NV entries: whether it is good, storing and loading it.
-use table::ROWS;
 use table::columns;
 use wire::wide;
 ghost use mathlib.Core.Path.{_≡_};
 ghost use mathlib.Core.Bool.{true, cond};
-ghost use Prim.Native.Nat.{_+_, _*_, _^_, _≤_, _<_};
-ghost use lib.ListN.{length, take, drop};
-ghost use Rattle.bits.specs.Bits.{bits, field};
+ghost use Prim.Native.Nat.{_+_, _*_, _/_, _^_, _≤_, _<_};
+ghost use lib.ListN.{length, take, drop, replicate};
+ghost use Rattle.bits.specs.Bits.{bits, msb};
 ghost use Rattle.table.specs.Row.{REAL};
-ghost use Rattle.table.specs.Rows.{row-count, at-row};
-ghost use Rattle.wire.specs.Little.{fromLittle, number};
+ghost use Rattle.table.specs.Rows.{nv-count};
+ghost use Rattle.table.specs.Rule.{rank};
+ghost use Rattle.wire.specs.Little.{little};
 ghost use Rattle.wire.specs.Splice.{splice};
-ghost use Rattle.block.specs.Block.{width, entry-bits, entry-bytes, within, widths, saved, load-rows, values-good, rows-good, all-zero};
+ghost use Rattle.block.specs.Block.{LAYOUT, BAG552, width as width-by, entry-bits, entry-bytes, saved, load-rows, all-zero};
 ghost use Rattle.block.specs.Saved.{nv, storable, stored, loadable, loaded};
-ghost use Rattle.block.specs.Asked.{Marked, Lent, Sized};
+ghost use Rattle.block.specs.Asked.{Fields, Places, Limits, Sized, number-len, entry-len, held-number, saved-number, between, held-front, saved-front, Front};
 
 const LAYOUT: u32 = 1;
 
 const MODEL: u32 = 1;
 
-// ---- One entry.
+// ---- A number.
 
-// The bits that an entry takes.
-fn width_of(kind: u8, len: usize) -> usize
-    requires { ⌜ len ≤ 64 ⌝ }
-    ensures { λ r. ⌜ r ≡ width kind len ⌝ }
-{
-    if kind == 0 {
-        return 1;
-    }
-    8 * len
-}
-
-fn save_entry(values: &[u8], block: &mut [u8], at: usize, kind: u8, len: usize, place: usize)
-    requires { ⌜ Sized kind len place × (length (now values) ≡ 1024) × (length (now block) ≡ 512) × (at + width kind len ≤ 4096) × (kind ≤ REAL → number (now values) place len < 2 ^ width kind len) ⌝ }
-    ensures { λ r. ⌜ bits (now (block .exit)) ≡ splice (bits (now (block .entry))) at (entry-bits kind len (take len (drop place (now (values .entry))))) ⌝ }
-{
-    if kind <= 5 {
-        let v = wire::number_at(values, place, len);
-        bits::put_field(block, at, width_of(kind, len), v as u32);
-    } else {
-        bits::put_bytes(block, at, values, place, len);
-    }
-}
-
-fn load_entry(block: &[u8], values: &mut [u8], at: usize, kind: u8, len: usize, place: usize)
-    requires { ⌜ Sized kind len place × (length (now values) ≡ 1024) × (length (now block) ≡ 512) × (at + width kind len ≤ 4096) ⌝ }
-    ensures { λ r. ⌜ now (values .exit) ≡ splice (now (values .entry)) place (entry-bytes kind len (drop at (bits (now (block .entry))))) ⌝ }
-{
-    if kind <= 5 {
-        let v = bits::get_field(block, at, width_of(kind, len));
-        wire::put_number(values, place, len, wide::word_to_u64(v));
-    } else {
-        bits::get_bytes(values, place, len, block, at);
-    }
-}
-
-// Is v within the limits of the row?
-fn is_within(row: usize, v: u64) -> bool
-    requires { ⌜ (row < row-count) × (v < 2 ^ 32) ⌝ }
-    ensures { λ r. ⌜ r ≡ within (at-row row) v ⌝ }
-{
-    entry::limits::code_of(entry::judge_row_number(row, v)) == 0
-}
-
-fn value_good(values: &[u8], row: usize, kind: u8, len: usize, place: usize) -> bool
-    requires { ⌜ (row < row-count) × (kind ≡ at-row row .kind) × Sized kind len place × (length (now values) ≡ 1024) ⌝ }
-    ensures { λ r. ⌜ r ≡ within (at-row row) (number (now (values .entry)) place len) ⌝ }
+// The number of an entry in the values, 0 for a string.
+fn held_number(values: &[u8], place: usize, kind: u8) -> u32
+    requires { ⌜ (kind ≤ REAL → place + number-len kind ≤ length (now values)) ⌝ }
+    ensures { λ r. ⌜ r ≡ held-number (now (values .entry)) place kind ⌝ }
 {
     if 5 < kind {
-        return true;
+        return 0;
     }
-    is_within(row, wire::number_at(values, place, len))
+    if 2 < kind {
+        return wire::word_at(values, place);
+    }
+    if kind == 2 {
+        return wire::number_at(values, place, 2) as u32;
+    }
+    wide::to_u32(wire::byte_at(values, place))
 }
 
-fn saved_good(block: &[u8], at: usize, row: usize, kind: u8, width: usize) -> bool
-    requires { ⌜ (row < row-count) × (kind ≡ at-row row .kind) × (kind ≤ REAL → width ≤ 32) × (length (now block) ≡ 512) × (at + width ≤ 4096) ⌝ }
-    ensures { λ r. ⌜ r ≡ within (at-row row) (field (bits (now (block .entry))) at width) ⌝ }
+fn put_number(values: &mut [u8], place: usize, kind: u8, v: u32)
+    requires { ⌜ (place + number-len kind ≤ length (now values)) × (v < 2 ^ (8 * number-len kind)) ⌝ }
+    ensures { λ _. ⌜ now (values .exit) ≡ splice (now (values .entry)) place (little (number-len kind) v) ⌝ }
+{
+    if 2 < kind {
+        wire::put_word(values, place, v);
+        return;
+    }
+    if kind == 2 {
+        wire::put_number(values, place, 2, wide::word_to_u64(v));
+        return;
+    }
+    wire::put_byte(values, place, v as u8);
+}
+
+// The number of an entry in the block, 0 for a string.
+fn saved_number(block: &[u8], at: usize, kind: u8, width: usize) -> u32
+    requires { ⌜ (at / 8 + 8 ≤ length (now block)) × (at ≤ 4096) × (1 ≤ width) × (kind ≤ REAL → width ≤ 32) ⌝ }
+    ensures { λ r. ⌜ r ≡ saved-number (bits (now (block .entry))) at kind width ⌝ }
 {
     if 5 < kind {
-        return true;
+        return 0;
     }
-    is_within(row, wide::word_to_u64(bits::get_field(block, at, width)))
+    bits::cut_field(block, at, width)
+}
+
+// The place of a number in the order of its type.
+fn rank_of(kind: u8, v: u32) -> u32
+    ensures { λ r. ⌜ r ≡ rank kind v ⌝ }
+{
+    if kind != 5 {
+        return v;
+    }
+    if v < 2147483648 {
+        return 2147483648 + v;
+    }
+    4294967295 - v + 1
+}
+
+fn is_within(kind: u8, low: u32, high: u32, v: u32) -> bool
+    ensures { λ r. ⌜ r ≡ between low high (rank kind v) ⌝ }
+{
+    let x = rank_of(kind, v);
+    if x < low {
+        return false;
+    }
+    x <= high
+}
+
+// ---- An entry, with its number.
+
+fn take_entry(
+    block: &[u8],
+    at: usize,
+    kind: u8,
+    width: usize,
+    v: u32,
+    values: &mut [u8],
+    place: usize,
+)
+    requires { ⌜ Sized kind (entry-len kind width) place × (width ≡ width-by kind (entry-len kind width)) × (length (now values) ≡ 1024) × (length (now block) ≡ 512) × (at + width ≤ 4096) × (v ≡ saved-number (bits (now block)) at kind width) ⌝ }
+    ensures { λ _. ⌜ now (values .exit) ≡ splice (now (values .entry)) place (entry-bytes kind (entry-len kind width) (drop at (bits (now (block .entry))))) ⌝ }
+{
+    if 5 < kind {
+        bits::get_bytes(values, place, width / 8, block, at);
+    } else {
+        put_number(values, place, kind, v);
+    }
+}
+
+// Into a block that is zero from bit at on.
+fn save_entry(
+    values: &[u8],
+    place: usize,
+    kind: u8,
+    v: u32,
+    block: &mut [u8],
+    at: usize,
+    width: usize,
+)
+    requires { ⌜ Sized kind (entry-len kind width) place × (width ≡ width-by kind (entry-len kind width)) × (length (now values) ≡ 1024) × (length (now block) ≡ 512) × (at + width ≤ 4032) × (v ≡ held-number (now values) place kind) × (kind ≤ REAL → v < 2 ^ width) × (all-zero (drop at (bits (now block))) ≡ true) ⌝ }
+    ensures { λ _. ⌜ bits (now (block .exit)) ≡ splice (bits (now (block .entry))) at (entry-bits kind (entry-len kind width) (take (entry-len kind width) (drop place (now (values .entry))))) ⌝ }
+{
+    if 5 < kind {
+        bits::put_bytes(block, at, values, place, width / 8);
+    } else {
+        bits::add_field(block, at, width, v);
+    }
 }
 
 // ---- All entries: the columns are lent, so that they are laid out once for a whole walk.
 
-fn save_rows(
-    marks: &[u8],
+// How many entries of the block stand before the first that is outside its limits; their numbers go into the room for them.
+fn good_entries(
     kinds: &[u8],
-    lens: &[u8],
-    places: &[u16],
-    values: &[u8],
-    block: &mut [u8],
-)
-    requires { ⌜ Lent (now marks) (now kinds) (now lens) (now places) × (length (now values) ≡ 1024) × (length (now block) ≡ 512) × (values-good (now values) nv ≡ true) ⌝ }
-    ensures { λ r. ⌜ bits (now (block .exit)) ≡ splice (bits (now (block .entry))) 8 (saved (now (values .entry)) nv) ⌝ }
+    ats: &[u16],
+    widths: &[u16],
+    lows: &[u32],
+    highs: &[u32],
+    block: &[u8],
+    numbers: &mut [u32],
+) -> usize
+    requires { ⌜ Fields (now kinds) (now ats) (now widths) × Limits (now lows) (now highs) × (length (now block) ≡ 512) × (length (now numbers) ≡ nv-count) ⌝ }
+    ensures { λ r. ⌜ (r ≡ saved-front (bits (now (block .entry))) 8 nv) × Front (bits (now (block .entry))) (now (numbers .exit)) r ⌝ }
 {
-    let mut row = 0;
-    let mut at = 8;
-    while row < ROWS {
-        if marks[row] == 1 {
-            let kind = kinds[row];
-            let len = wide::to_usize(lens[row]);
-            let place = wide::pair_to_usize(places[row]);
-            save_entry(values, block, at, kind, len, place);
-            at += width_of(kind, len);
+    let mut i = 0;
+    while i < columns::NV_ROWS {
+        let kind = kinds[i];
+        let at = wide::pair_to_usize(ats[i]);
+        let width = wide::pair_to_usize(widths[i]);
+        let v = saved_number(block, at, kind, width);
+        if !is_within(kind, lows[i], highs[i], v) {
+            return i;
         }
-        row += 1;
+        numbers[i] = v;
+        i += 1;
     }
+    i
 }
 
-fn load_all(
-    marks: &[u8],
+// The first n entries of the block, whose numbers are known, into the values.
+fn take_entries(
+    n: usize,
     kinds: &[u8],
-    lens: &[u8],
+    ats: &[u16],
+    widths: &[u16],
     places: &[u16],
+    numbers: &[u32; 38],
     block: &[u8],
     values: &mut [u8],
 )
-    requires { ⌜ Lent (now marks) (now kinds) (now lens) (now places) × (length (now values) ≡ 1024) × (length (now block) ≡ 512) ⌝ }
-    ensures { λ r. ⌜ now (values .exit) ≡ load-rows (bits (now (block .entry))) 8 nv (now (values .entry)) ⌝ }
+    requires { ⌜ (n ≤ nv-count) × Fields (now kinds) (now ats) (now widths) × Places (now places) × Front (bits (now block)) (now numbers) n × (length (now block) ≡ 512) × (length (now values) ≡ 1024) ⌝ }
+    ensures { λ _. ⌜ now (values .exit) ≡ load-rows (bits (now (block .entry))) 8 (take n nv) (now (values .entry)) ⌝ }
 {
-    let mut row = 0;
-    let mut at = 8;
-    while row < ROWS {
-        if marks[row] == 1 {
-            let kind = kinds[row];
-            let len = wide::to_usize(lens[row]);
-            let place = wide::pair_to_usize(places[row]);
-            load_entry(block, values, at, kind, len, place);
-            at += width_of(kind, len);
-        }
-        row += 1;
+    let mut i = 0;
+    while i < n {
+        let at = wide::pair_to_usize(ats[i]);
+        let width = wide::pair_to_usize(widths[i]);
+        let place = wide::pair_to_usize(places[i]);
+        take_entry(block, at, kinds[i], width, numbers[i], values, place);
+        i += 1;
     }
 }
 
-// Are all NV values within their limits?
-fn all_good(marks: &[u8], kinds: &[u8], lens: &[u8], places: &[u16], values: &[u8]) -> bool
-    requires { ⌜ Lent (now marks) (now kinds) (now lens) (now places) × (length (now values) ≡ 1024) ⌝ }
-    ensures { λ r. ⌜ r ≡ values-good (now (values .entry)) nv ⌝ }
+// The entries that stand before the first that is outside its limits, into a block without any, and how many they are.
+fn save_entries(
+    kinds: &[u8],
+    ats: &[u16],
+    widths: &[u16],
+    places: &[u16],
+    lows: &[u32],
+    highs: &[u32],
+    values: &[u8],
+    block: &mut [u8],
+) -> usize
+    requires { ⌜ Fields (now kinds) (now ats) (now widths) × Places (now places) × Limits (now lows) (now highs) × (length (now values) ≡ 1024) × (length (now block) ≡ 512) × (all-zero (drop 8 (bits (now block))) ≡ true) ⌝ }
+    ensures { λ r. ⌜ (r ≡ held-front (now (values .entry)) nv) × (bits (now (block .exit)) ≡ splice (bits (now (block .entry))) 8 (saved (now (values .entry)) (take r nv))) ⌝ }
 {
-    let mut row = 0;
-    while row < ROWS {
-        if marks[row] == 1 {
-            let kind = kinds[row];
-            let len = wide::to_usize(lens[row]);
-            let place = wide::pair_to_usize(places[row]);
-            if !value_good(values, row, kind, len, place) {
-                return false;
-            }
+    let mut i = 0;
+    while i < columns::NV_ROWS {
+        let kind = kinds[i];
+        let place = wide::pair_to_usize(places[i]);
+        let v = held_number(values, place, kind);
+        if !is_within(kind, lows[i], highs[i], v) {
+            return i;
         }
-        row += 1;
+        let at = wide::pair_to_usize(ats[i]);
+        let width = wide::pair_to_usize(widths[i]);
+        save_entry(values, place, kind, v, block, at, width);
+        i += 1;
     }
-    true
-}
-
-// The bit after the last entry, or 0 where one is outside its limits.
-fn end_of_good(marks: &[u8], kinds: &[u8], lens: &[u8], block: &[u8]) -> usize
-    requires { ⌜ Marked (now marks) (now kinds) (now lens) × (length (now block) ≡ 512) ⌝ }
-    ensures { λ r. ⌜ r ≡ cond (rows-good (bits (now (block .entry))) 8 nv) (8 + widths nv) 0 ⌝ }
-{
-    let mut row = 0;
-    let mut at = 8;
-    while row < ROWS {
-        if marks[row] == 1 {
-            let kind = kinds[row];
-            let width = width_of(kind, wide::to_usize(lens[row]));
-            if !saved_good(block, at, row, kind, width) {
-                return 0;
-            }
-            at += width;
-        }
-        row += 1;
-    }
-    at
+    i
 }
 
 // ---- The rest.
 
-// Are all bytes from byte i on zero?
+// Are all bytes from byte first on zero? The greatest says it, with no way out of the loop.
 fn bytes_zero(block: &[u8], first: usize) -> bool
     requires { ⌜ (length (now block) ≡ 512) × (first ≤ 512) ⌝ }
     ensures { λ r. ⌜ r ≡ all-zero (drop (8 * first) (bits (now (block .entry)))) ⌝ }
 {
+    let mut most: u8 = 0;
     let mut i = first;
     while i < 512 {
-        if block[i] != 0 {
-            return false;
+        if most < block[i] {
+            most = block[i];
         }
         i += 1;
     }
-    true
+    most == 0
 }
 
 // Are all bits from bit end on zero?
@@ -208,60 +244,99 @@ fn rest_zero(block: &[u8], end: usize) -> bool
 
 // ---- The block.
 
-fn good_by(marks: &[u8], kinds: &[u8], lens: &[u8], block: &[u8]) -> bool
-    requires { ⌜ Marked (now marks) (now kinds) (now lens) × (length (now block) ≡ 512) ⌝ }
-    ensures { λ r. ⌜ r ≡ loadable (now (block .entry)) ⌝ }
+// How many entries a load takes, and their numbers: all of a block that is not faulty, none of a faulty one.
+fn entries_taken(
+    kinds: &[u8],
+    ats: &[u16],
+    widths: &[u16],
+    lows: &[u32],
+    highs: &[u32],
+    block: &[u8],
+    numbers: &mut [u32],
+) -> usize
+    requires { ⌜ Fields (now kinds) (now ats) (now widths) × Limits (now lows) (now highs) × (length (now block) ≡ 512) × (length (now numbers) ≡ nv-count) ⌝ }
+    ensures { λ r. ⌜ (r ≡ cond (loadable (now (block .entry))) nv-count 0) × Front (bits (now (block .entry))) (now (numbers .exit)) r ⌝ }
 {
     if bits::get_field(block, 0, 4) != LAYOUT {
-        return false;
+        return 0;
     }
     if bits::get_field(block, 4, 4) != MODEL {
-        return false;
+        return 0;
     }
-    let end = end_of_good(marks, kinds, lens, block);
-    if end == 0 {
-        return false;
+    if !rest_zero(block, columns::NV_END) {
+        return 0;
     }
-    rest_zero(block, end)
-}
-
-fn store_by(
-    marks: &[u8],
-    kinds: &[u8],
-    lens: &[u8],
-    places: &[u16],
-    values: &[u8],
-    block: &mut [u8],
-) -> bool
-    requires { ⌜ Lent (now marks) (now kinds) (now lens) (now places) × (length (now values) ≡ 1024) × (length (now block) ≡ 512) ⌝ }
-    ensures { λ r. ⌜ (r ≡ storable (now (values .entry))) × (now (block .exit) ≡ stored (now (values .entry)) (now (block .entry))) ⌝ }
-{
-    if !all_good(marks, kinds, lens, places, values) {
-        return false;
+    let good = good_entries(kinds, ats, widths, lows, highs, block, numbers);
+    if good < columns::NV_ROWS {
+        return 0;
     }
-    wire::clear(block);
-    bits::put_field(block, 0, 4, LAYOUT);
-    bits::put_field(block, 4, 4, MODEL);
-    save_rows(marks, kinds, lens, places, values, block);
-    true
+    good
 }
 
 fn load_by(
-    marks: &[u8],
     kinds: &[u8],
-    lens: &[u8],
+    ats: &[u16],
+    widths: &[u16],
     places: &[u16],
+    lows: &[u32],
+    highs: &[u32],
     block: &[u8],
     values: &mut [u8],
 ) -> bool
-    requires { ⌜ Lent (now marks) (now kinds) (now lens) (now places) × (length (now values) ≡ 1024) × (length (now block) ≡ 512) ⌝ }
+    requires { ⌜ Fields (now kinds) (now ats) (now widths) × Places (now places) × Limits (now lows) (now highs) × (length (now values) ≡ 1024) × (length (now block) ≡ 512) ⌝ }
     ensures { λ r. ⌜ (r ≡ loadable (now (block .entry))) × (now (values .exit) ≡ loaded (now (block .entry)) (now (values .entry))) ⌝ }
 {
-    let good = good_by(marks, kinds, lens, block);
-    if !good {
+    let mut numbers = [0u32; 38];
+    let n = entries_taken(kinds, ats, widths, lows, highs, block, &mut numbers);
+    take_entries(n, kinds, ats, widths, places, &numbers, block, values);
+    0 < n
+}
+
+// Layout, model and entries into a block of zeros: how many entries went in.
+fn fill_block(
+    kinds: &[u8],
+    ats: &[u16],
+    widths: &[u16],
+    places: &[u16],
+    lows: &[u32],
+    highs: &[u32],
+    values: &[u8],
+    block: &mut [u8],
+) -> usize
+    requires { ⌜ Fields (now kinds) (now ats) (now widths) × Places (now places) × Limits (now lows) (now highs) × (length (now values) ≡ 1024) × (now block ≡ replicate 512 0) ⌝ }
+    ensures { λ r. ⌜ (r ≡ held-front (now (values .entry)) nv) × (bits (now (block .exit)) ≡ splice (splice (splice (bits (replicate 512 0)) 0 (msb 4 LAYOUT)) 4 (msb 4 BAG552)) 8 (saved (now (values .entry)) (take r nv))) ⌝ }
+{
+    bits::put_field(block, 0, 4, LAYOUT);
+    bits::put_field(block, 4, 4, MODEL);
+    save_entries(kinds, ats, widths, places, lows, highs, values, block)
+}
+
+fn write_block(fresh: &[u8; 512], block: &mut [u8])
+    requires { ⌜ length (now block) ≡ 512 ⌝ }
+    ensures { λ _. ⌜ now (block .exit) ≡ now (fresh .entry) ⌝ }
+{
+    wire::copy_at(block, 0, fresh, 0, 512);
+}
+
+fn store_by(
+    kinds: &[u8],
+    ats: &[u16],
+    widths: &[u16],
+    places: &[u16],
+    lows: &[u32],
+    highs: &[u32],
+    values: &[u8],
+    block: &mut [u8],
+) -> bool
+    requires { ⌜ Fields (now kinds) (now ats) (now widths) × Places (now places) × Limits (now lows) (now highs) × (length (now values) ≡ 1024) × (length (now block) ≡ 512) ⌝ }
+    ensures { λ r. ⌜ (r ≡ storable (now (values .entry))) × (now (block .exit) ≡ stored (now (values .entry)) (now (block .entry))) ⌝ }
+{
+    let mut fresh = [0u8; 512];
+    let n = fill_block(kinds, ats, widths, places, lows, highs, values, &mut fresh);
+    if n < columns::NV_ROWS {
         return false;
     }
-    load_all(marks, kinds, lens, places, block, values);
+    write_block(&fresh, block);
     true
 }
 
@@ -270,7 +345,17 @@ pub fn is_good(block: &[u8]) -> bool
     requires { ⌜ length (now block) ≡ 512 ⌝ }
     ensures { λ r. ⌜ r ≡ loadable (now (block .entry)) ⌝ }
 {
-    good_by(&columns::NV, &columns::KIND, &columns::LEN, block)
+    let mut numbers = [0u32; 38];
+    0
+        < entries_taken(
+            &columns::NV_KIND,
+            &columns::NV_AT,
+            &columns::NV_WIDTH,
+            &columns::NV_LOW,
+            &columns::NV_HIGH,
+            block,
+            &mut numbers,
+        )
 }
 
 // Writes the block of the values, or nothing where an NV value is outside its limits.
@@ -279,10 +364,12 @@ pub fn store(values: &[u8], block: &mut [u8]) -> bool
     ensures { λ r. ⌜ (r ≡ storable (now (values .entry))) × (now (block .exit) ≡ stored (now (values .entry)) (now (block .entry))) ⌝ }
 {
     store_by(
-        &columns::NV,
-        &columns::KIND,
-        &columns::LEN,
-        &columns::PLACE,
+        &columns::NV_KIND,
+        &columns::NV_AT,
+        &columns::NV_WIDTH,
+        &columns::NV_PLACE,
+        &columns::NV_LOW,
+        &columns::NV_HIGH,
         values,
         block,
     )
@@ -294,10 +381,12 @@ pub fn load(block: &[u8], values: &mut [u8]) -> bool
     ensures { λ r. ⌜ (r ≡ loadable (now (block .entry))) × (now (values .exit) ≡ loaded (now (block .entry)) (now (values .entry))) ⌝ }
 {
     load_by(
-        &columns::NV,
-        &columns::KIND,
-        &columns::LEN,
-        &columns::PLACE,
+        &columns::NV_KIND,
+        &columns::NV_AT,
+        &columns::NV_WIDTH,
+        &columns::NV_PLACE,
+        &columns::NV_LOW,
+        &columns::NV_HIGH,
         block,
         values,
     )

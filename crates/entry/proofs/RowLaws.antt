@@ -89,7 +89,7 @@ entry-verdict r values =
 -- ---- the default
 
 -- 32 bits between two finite patterns, by rank, are no NaN's
-between-finite : (low high v : ℕ) → low < 4294967296 → high < 4294967296 → v < 4294967296 → low % 2147483648 < 2139095040 → high % 2147483648 < 2139095040
+pub between-finite : (low high v : ℕ) → low < 4294967296 → high < 4294967296 → v < 4294967296 → low % 2147483648 < 2139095040 → high % 2147483648 < 2139095040
     → real-rank low ≤ real-rank v → real-rank v ≤ real-rank high → v % 2147483648 ≤ 2139095040
 unfolding real-rank pick
 between-finite low high v l h w fl fh a b =

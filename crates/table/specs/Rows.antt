@@ -144,3 +144,10 @@ row-count = 129
 -- the row with a number; past the end a row of zeros
 abbrev pub at-row : ℕ → Row
 at-row r = getD rows r no-row
+
+-- the rows with an NV mark, and the bit of the saved block behind their entries: both are computed in the crate block
+abbrev pub nv-count : ℕ
+nv-count = 38
+
+abbrev pub nv-end : ℕ
+nv-end = 1214

@@ -1,82 +1,35 @@
--- `get_bytes` meets its contract. Invariant: the bytes that are left, read from here, give the whole. Assumes nothing.
-use mathlib.Core.Path.{_≡_, _∙_, sym, refl}
-use Prim.Native.Nat.{_+_, _*_, _≤_}
+-- `get_bytes` meets its contract: whole bytes are copied, others come from across. Assumes nothing.
+use mathlib.Core.Path.{_∙_, ap}
 use native.Mathlib.Omega.{arith}
-use lib.ListN.{length-set, length, drop}
-use Rattle.bits.proofs.Copying.{get-turn}
-use Rattle.bits.proofs.Parts.{field-lt}
+use borrow.Author.Needs.{needs}
+use Rattle.bits.proofs.Copying.{get-whole-bytes}
 use Rattle.bits.proofs.get_bytes.Statement.{statement}
-use Rattle.bits.specs.Bits.{bits, packed}
-use Rattle.wire.proofs.SpliceLaws.{splice-none}
 use Rattle.wire.specs.Splice.{splice}
 use Rattle.bits.proofs.get_bytes.Tie as tie
 
-abbrev Inv-loop : tie.InvT-loop
-Inv-loop dst₀ to n s at q₀ left₀ a₀ dst q left a = (left ≤ n) × (q + left ≡ to + n) × (a + 8 * left ≡ at + 8 * n) × (length dst ≡ length dst₀) × (splice dst q (packed left (drop a (bits s))) ≡ splice dst₀ to (packed n (drop at (bits s))))
+copy-at-requires : tie.Need-copy-at-requires
+copy-at-requires c κs = search needs
 
-abbrev μ-loop : tie.MeasureT-loop
-μ-loop dst₀ to n s at q₀ left₀ a₀ dst q left a = left
+get-across-requires : tie.Need-get-across-requires
+get-across-requires c κs = search needs
 
-loop-holds : tie.Need-loop-holds Inv-loop μ-loop
-loop-holds c = (omega arith, omega arith, omega arith, refl, refl)
+same-length : tie.Need-same-length
+same-length c = search needs
 
-get-field-requires : tie.Need-get-field-requires Inv-loop μ-loop
-get-field-requires c κs = omega arith
-
-cast-dst : tie.Need-cast-dst Inv-loop μ-loop
-cast-dst c = omega (arith, c .get-field .ensures, field-lt (c .before .before .before .before .before .args .s .now) (c .before .before .loop .a) 8)
-
-slice-write-dst : tie.Need-slice-write-dst Inv-loop μ-loop
-slice-write-dst c = omega arith
-
-add-q : tie.Need-add-q Inv-loop μ-loop
-add-q c = omega arith
-
-sub-left : tie.Need-sub-left Inv-loop μ-loop
-sub-left c = omega arith
-
-add-a : tie.Need-add-a Inv-loop μ-loop
-add-a c = omega arith
-
-loop-less : tie.Need-loop-less Inv-loop μ-loop
-loop-less c = omega arith
-
-loop-again : tie.Need-loop-again Inv-loop μ-loop
-loop-again c =
-    let l = c .before .before .loop in
-    let a = c .before .before .before .before .before .args in (
-      omega arith,
-      omega arith,
-      omega arith,
-      length-set (l .dst) (l .q) _ ∙ l .inv .3,
-      (rw (c .get-field .ensures) (get-turn (l .dst) (bits (a .s .now)) (l .a) (l .q) (l .left) (omega arith) (omega arith))) ∙ l .inv .4,
-    )
-
-same-length : tie.Need-same-length Inv-loop μ-loop
-same-length c = c .before .loop .inv .3
-
-returns : tie.Need-returns Inv-loop μ-loop
-unfolding packed
+returns : tie.Need-returns
 returns c =
-    let l = c .before .loop in
-    let a = c .before .before .before .before .args in
-    let z : l .left ≡ 0 = omega arith in
-    sym (splice-none (l .dst) (l .q)) ∙ (rw z at (l .inv .4))
+    let b = c .before .before .before .before in
+    let a = b .before .before .before .args in
+    c .before .before .copy-at .ensures
+    ∙ ap (splice (a .dst .now) (a .to)) (get-whole-bytes (a .s .now) (a .at) (a .n) (λ k. (b .before .shared-slice-known .given k) .fits) (b .if1 .taken) (omega arith))
+
+same-length-2 : tie.Need-same-length-2
+same-length-2 c = search needs
+
+returns-2 : tie.Need-returns-2
+returns-2 c = search needs
 
 pub get-bytes-spec : {M : Type 1} → statement M
 get-bytes-spec =
     tie.close
-    (tie.spec
-    Inv-loop
-    μ-loop
-    loop-holds
-    get-field-requires
-    cast-dst
-    slice-write-dst
-    add-q
-    sub-left
-    add-a
-    loop-less
-    loop-again
-    same-length
-    returns)
+    (tie.spec copy-at-requires get-across-requires same-length returns same-length-2 returns-2)

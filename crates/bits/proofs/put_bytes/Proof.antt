@@ -1,85 +1,37 @@
--- `put_bytes` meets its contract. Invariant: the bytes that are left, written from here, give the whole. Assumes nothing.
-use mathlib.Core.List.{List}
-use mathlib.Core.Path.{_≡_, _∙_, sym, ap, refl}
-use Prim.Native.Nat.{ℕ, _+_, _-_, _*_, _≤_}
+-- `put_bytes` meets its contract: whole bytes are copied, others go across. Assumes nothing.
+use mathlib.Core.Path.{_∙_, ap}
 use native.Mathlib.Omega.{arith}
-use lib.ListN.{length, take, drop}
-use Rattle.bits.proofs.Copying.{put-turn}
-use Rattle.bits.proofs.Numbers.{length-bits}
+use lib.ListN.{take, drop}
+use borrow.Author.Needs.{needs}
+use Rattle.bits.proofs.Copying.{put-whole-bytes}
 use Rattle.bits.proofs.put_bytes.Statement.{statement}
-use Rattle.bits.specs.Bits.{bits, msb}
-use Rattle.wire.proofs.SpliceLaws.{splice-none}
-use Rattle.wire.specs.Splice.{splice}
+use Rattle.bits.specs.Bits.{bits}
+use Rattle.wire.proofs.SpliceLaws.{part-length}
 use Rattle.bits.proofs.put_bytes.Tie as tie
 
-abbrev Inv-loop : tie.InvT-loop
-Inv-loop s₀ at src from n q₀ left₀ a₀ s q left a = (left ≤ n) × (q + left ≡ from + n) × (a + 8 * left ≡ at + 8 * n) × (length s ≡ length s₀) × (splice (bits s) a (bits (take left (drop q src))) ≡ splice (bits s₀) at (bits (take n (drop from src))))
+copy-at-requires : tie.Need-copy-at-requires
+copy-at-requires c κs = search needs
 
-abbrev μ-loop : tie.MeasureT-loop
-μ-loop s₀ at src from n q₀ left₀ a₀ s q left a = left
+put-across-requires : tie.Need-put-across-requires
+put-across-requires c κs = search needs
 
-loop-holds : tie.Need-loop-holds Inv-loop μ-loop
-loop-holds c = (omega arith, omega arith, omega arith, refl, refl)
+same-length : tie.Need-same-length
+same-length c = search needs
 
-shared-slice-read-to-u32 : tie.Need-shared-slice-read-to-u32 Inv-loop μ-loop
-shared-slice-read-to-u32 c = omega arith
-
-to-u32-requires : tie.Need-to-u32-requires Inv-loop μ-loop
-to-u32-requires c κs = omega arith
-
-put-field-requires : tie.Need-put-field-requires Inv-loop μ-loop
-put-field-requires c κs = (omega arith, omega arith, omega arith, c .to-u32 .ensures .1)
-
-add-q : tie.Need-add-q Inv-loop μ-loop
-add-q c = omega arith
-
-sub-left : tie.Need-sub-left Inv-loop μ-loop
-sub-left c = omega arith
-
-add-a : tie.Need-add-a Inv-loop μ-loop
-add-a c = omega arith
-
-loop-less : tie.Need-loop-less Inv-loop μ-loop
-loop-less c = omega arith
-
-loop-again : tie.Need-loop-again Inv-loop μ-loop
-loop-again c =
-    let l = c .before .before .before .before .before .before .before .loop in
-    let a = c .before .before .before .before .before .before .before .before .before .before .args in (
-      omega arith,
-      omega arith,
-      omega arith,
-      c .before .before .put-field .kept .0 ∙ l .inv .3,
-      ap (λ (y : List ℕ). splice y (l .a + 8) (bits (take (l .left - 1) (drop (l .q + 1) (a .src .now))))) (c .before .before .put-field .ensures ∙ ap (λ (x : ℕ). splice (bits (l .s)) (l .a) (msb 8 x)) (c .before .before .before .to-u32 .ensures .0))
-          ∙ put-turn (bits (l .s)) (a .src .now) (l .a) (l .q) (l .left) (omega arith) (omega arith) (omega (arith, length-bits (l .s)))
-          ∙ l .inv .4,
-    )
-
-same-length : tie.Need-same-length Inv-loop μ-loop
-same-length c = c .before .loop .inv .3
-
-returns : tie.Need-returns Inv-loop μ-loop
-unfolding bits
+returns : tie.Need-returns
 returns c =
-    let l = c .before .loop in
-    let a = c .before .before .before .before .args in
-    let z : l .left ≡ 0 = omega arith in
-    sym (splice-none (bits (l .s)) (l .a)) ∙ (rw z at (l .inv .4))
+    let b = c .before .before .before .before in
+    let a = b .before .before .before .args in
+    ap bits (c .before .before .copy-at .ensures)
+    ∙ put-whole-bytes (a .s .now) (a .at) (a .n) (take (a .n) (drop (a .from) (a .src .now))) (b .if1 .taken) (part-length (a .src .now) (a .from) (a .n) (omega arith)) (omega arith)
+
+same-length-2 : tie.Need-same-length-2
+same-length-2 c = search needs
+
+returns-2 : tie.Need-returns-2
+returns-2 c = search needs
 
 pub put-bytes-spec : {M : Type 1} → statement M
 put-bytes-spec =
     tie.close
-    (tie.spec
-    Inv-loop
-    μ-loop
-    loop-holds
-    shared-slice-read-to-u32
-    to-u32-requires
-    put-field-requires
-    add-q
-    sub-left
-    add-a
-    loop-less
-    loop-again
-    same-length
-    returns)
+    (tie.spec copy-at-requires put-across-requires same-length returns same-length-2 returns-2)

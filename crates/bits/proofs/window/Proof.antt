@@ -24,7 +24,7 @@ mul-acc : tie.Need-mul-acc Inv-loop μ-loop
 mul-acc c =
     let l = c .before .loop in
     let a = c .before .before .before .args in
-    omega (arith, l .inv .2, field-fits (a .s .now) (8 * a .first) (8 * (l .i - a .first)) 32 (omega arith))
+    omega (arith, l .inv .2, field-fits (a .s .now) (8 * a .first) (8 * (l .i - a .first)) 56 (omega arith))
 
 shared-slice-read-to-u64 : tie.Need-shared-slice-read-to-u64 Inv-loop μ-loop
 shared-slice-read-to-u64 c = omega arith
@@ -36,7 +36,7 @@ add-acc : tie.Need-add-acc Inv-loop μ-loop
 add-acc c =
     let l = c .before .before .before .loop in
     let a = c .before .before .before .before .before .args in
-    omega (arith, l .inv .2, field-fits (a .s .now) (8 * a .first) (8 * (l .i - a .first)) 32 (omega arith), c .to-u64 .ensures)
+    omega (arith, l .inv .2, field-fits (a .s .now) (8 * a .first) (8 * (l .i - a .first)) 56 (omega arith), c .to-u64 .ensures)
 
 add-i : tie.Need-add-i Inv-loop μ-loop
 add-i c = omega arith

@@ -1,9 +1,11 @@
--- `load`: the columns lent are the table's. Assumes nothing.
+-- `load` lends the columns: they are computed to be the NV rows'. Assumes nothing.
 use mathlib.Core.Path.{refl}
-use borrow.Author.Needs.{needs}
-use Rattle.block.proofs.load.Statement.{statement}
-use Rattle.table.specs.Columns.{column}
+use Rattle.block.specs.Asked.{starts}
+use Rattle.block.specs.Block.{width, nv-rows}
 use Rattle.table.specs.Rows.{rows}
+use Rattle.table.specs.Rule.{pick, rank, real-rank}
+use Rattle.block.proofs.load.Statement.{statement}
+use borrow.Author.Needs.{needs}
 use Rattle.block.proofs.load.Tie as tie
 
 slice-aggregate-load-by : tie.Need-slice-aggregate-load-by
@@ -18,9 +20,17 @@ slice-aggregate-load-by-3 c = search needs
 slice-aggregate-load-by-4 : tie.Need-slice-aggregate-load-by-4
 slice-aggregate-load-by-4 c = search needs
 
+slice-aggregate-load-by-5 : tie.Need-slice-aggregate-load-by-5
+slice-aggregate-load-by-5 c = search needs
+
+slice-aggregate-load-by-6 : tie.Need-slice-aggregate-load-by-6
+slice-aggregate-load-by-6 c = search needs
+
 load-by-requires : tie.Need-load-by-requires
-unfolding rows column
-load-by-requires c κs = (record { marked = record { marks-are = refl; kinds-are = refl; lens-are = refl }; places-are = refl }, c .before .before .before .before .before .before .before .pre .0, c .before .before .before .before .before .before .before .pre .1)
+unfolding rows nv-rows width starts rank real-rank pick
+load-by-requires c κs =
+    let b = c .before .before .before .before .before .before .before .before .before in
+    (record { kinds-are = refl; ats-are = refl; widths-are = refl }, refl, record { lows-are = refl; highs-are = refl }, b .pre .0, b .pre .1)
 
 same-length : tie.Need-same-length
 same-length c = search needs
@@ -36,6 +46,8 @@ load-spec =
     slice-aggregate-load-by-2
     slice-aggregate-load-by-3
     slice-aggregate-load-by-4
+    slice-aggregate-load-by-5
+    slice-aggregate-load-by-6
     load-by-requires
     same-length
     returns)

@@ -1,25 +1,36 @@
--- `load_by` meets its contract: nothing, or all entries. Assumes nothing.
-use borrow.Author.Needs.{needs}
-use borrow.Author.Tests.{not-true, not-false}
-use Rattle.block.proofs.Whole.{load-refused, load-taken}
+-- `load_by` meets its contract: as many entries are taken as a load takes. Assumes nothing.
+use Rattle.block.proofs.Whole.{taken-most, load-done}
 use Rattle.block.proofs.load_by.Statement.{statement}
+use borrow.Author.Needs.{needs}
 use Rattle.block.proofs.load_by.Tie as tie
 
-good-by-requires : tie.Need-good-by-requires
-good-by-requires c κs = search needs
+slice-aggregate-entries-taken : tie.Need-slice-aggregate-entries-taken
+slice-aggregate-entries-taken c = search needs
 
-returns : tie.Need-returns
-returns c = load-refused (c .before .before .before .before .before .before .before .before .args .block .now) (c .before .before .before .before .before .before .before .before .args .values .now) (c .before .good-by .ensures) (not-true (c .before .good-by .result) (c .if1 .taken))
+entries-taken-requires : tie.Need-entries-taken-requires
+entries-taken-requires c κs = search needs
 
-load-all-requires : tie.Need-load-all-requires
-load-all-requires c κs = search needs
+take-entries-requires : tie.Need-take-entries-requires
+take-entries-requires c κs =
+    let b = c .before .before .before .before .before .before .before .before .before .before .before .before .before in
+    let a = b .args in
+    (taken-most (a .block .now) (c .before .before .before .entries-taken .ensures .0), b .pre .0, b .pre .1, c .before .before .before .entries-taken .ensures .1, b .pre .4, b .pre .3)
 
 same-length : tie.Need-same-length
 same-length c = search needs
 
-returns-2 : tie.Need-returns-2
-returns-2 c = load-taken (c .before .before .before .before .before .before .before .before .before .before .before .before .args .block .now) (c .before .before .before .before .before .before .before .before .before .before .before .before .args .values .now) (c .before .before .before .before .before .good-by .ensures) (not-false (c .before .before .before .before .before .good-by .result) (c .before .before .before .before .if1 .left)) (c .before .before .load-all .ensures)
+returns : tie.Need-returns
+returns c =
+    let b = c .before .before .before .before .before .before .before .before .before .before .before .before .before .before .before .before in
+    let a = b .args in
+    load-done (a .block .now) (a .values .now) (c .before .before .before .before .before .before .entries-taken .ensures .0) (c .before .before .take-entries .ensures)
 
 pub load-by-spec : {M : Type 1} → statement M
 load-by-spec =
-    tie.close (tie.spec good-by-requires returns load-all-requires same-length returns-2)
+    tie.close
+    (tie.spec
+    slice-aggregate-entries-taken
+    entries-taken-requires
+    take-entries-requires
+    same-length
+    returns)

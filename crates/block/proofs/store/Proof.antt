@@ -1,9 +1,11 @@
--- `store`: the columns lent are the table's. Assumes nothing.
+-- `store` lends the columns: they are computed to be the NV rows'. Assumes nothing.
 use mathlib.Core.Path.{refl}
-use borrow.Author.Needs.{needs}
-use Rattle.block.proofs.store.Statement.{statement}
-use Rattle.table.specs.Columns.{column}
+use Rattle.block.specs.Asked.{starts}
+use Rattle.block.specs.Block.{width, nv-rows}
 use Rattle.table.specs.Rows.{rows}
+use Rattle.table.specs.Rule.{pick, rank, real-rank}
+use Rattle.block.proofs.store.Statement.{statement}
+use borrow.Author.Needs.{needs}
 use Rattle.block.proofs.store.Tie as tie
 
 slice-aggregate-store-by : tie.Need-slice-aggregate-store-by
@@ -18,9 +20,17 @@ slice-aggregate-store-by-3 c = search needs
 slice-aggregate-store-by-4 : tie.Need-slice-aggregate-store-by-4
 slice-aggregate-store-by-4 c = search needs
 
+slice-aggregate-store-by-5 : tie.Need-slice-aggregate-store-by-5
+slice-aggregate-store-by-5 c = search needs
+
+slice-aggregate-store-by-6 : tie.Need-slice-aggregate-store-by-6
+slice-aggregate-store-by-6 c = search needs
+
 store-by-requires : tie.Need-store-by-requires
-unfolding rows column
-store-by-requires c κs = (record { marked = record { marks-are = refl; kinds-are = refl; lens-are = refl }; places-are = refl }, c .before .before .before .before .before .before .before .pre .0, c .before .before .before .before .before .before .before .pre .1)
+unfolding rows nv-rows width starts rank real-rank pick
+store-by-requires c κs =
+    let b = c .before .before .before .before .before .before .before .before .before in
+    (record { kinds-are = refl; ats-are = refl; widths-are = refl }, refl, record { lows-are = refl; highs-are = refl }, b .pre .0, b .pre .1)
 
 same-length : tie.Need-same-length
 same-length c = search needs
@@ -36,6 +46,8 @@ store-spec =
     slice-aggregate-store-by-2
     slice-aggregate-store-by-3
     slice-aggregate-store-by-4
+    slice-aggregate-store-by-5
+    slice-aggregate-store-by-6
     store-by-requires
     same-length
     returns)

@@ -1,0 +1,117 @@
+-- A number is within the limits of its row where its place in the order of its type lies between theirs. Assumes nothing.
+use mathlib.Core.Bool.{Bool, true, false, _&&_}
+use mathlib.Core.List.{List}
+use mathlib.Core.Logic.{⊎-elim}
+use mathlib.Core.Path.{_≡_, refl, sym, ap, _∙_}
+use Prim.Native.Nat.{ℕ, _+_, _-_, _≤_, _<_}
+use native.Mathlib.Omega.{arith}
+use lib.Dec.{eqb, leb}
+use borrow.Author.Tests.{eq-eqb, ne-eqb, le-leb, lt-leb, le-ltb, lt-ltb}
+use Rattle.bits.proofs.Parts.{field-fits}
+use Rattle.bits.specs.Bits.{bits, field, Bytes}
+use Rattle.block.proofs.Entries.{number-or-string, no-code, number-narrow, within-string, width-most}
+use Rattle.block.proofs.Kept.{Kept}
+use Rattle.block.specs.Asked.{between, held-number, saved-number, number-len}
+use Rattle.block.specs.Block.{row-width, within}
+use Rattle.entry.proofs.LimitsLaws.{rank-within, within-rank, within-number}
+use Rattle.entry.proofs.RowLaws.{judgeable, between-finite}
+use Rattle.entry.specs.Entry.{number-verdict}
+use Rattle.entry.specs.Limits.{Patterns, kind-verdict, verdict-code}
+use Rattle.entry.specs.declared.limits.Verdict.{Verdict}
+use Rattle.entry.specs.declared.limits.Verdict.the-variants.{Within}
+use Rattle.table.proofs.Rules.{RowRule}
+use Rattle.table.proofs.Walks.{lt-or-ge}
+use Rattle.table.specs.Row.{Row, REAL}
+use Rattle.table.specs.Rule.{pick, rank, real-rank}
+use Rattle.wire.specs.Little.{number}
+
+module _ (r : Row) (u : RowRule r) (v : ℕ) (w : v < 4294967296) (h : r .kind ≤ REAL) where
+  abbrev low : ℕ
+  low = rank (r .kind) (r .low)
+
+  abbrev high : ℕ
+  high = rank (r .kind) (r .high)
+
+  abbrev own : ℕ
+  own = rank (r .kind) v
+
+  patterns : r .kind ≡ REAL → Patterns (r .low) (r .high) v
+  patterns e = judgeable r refl refl refl v u (λ q. w) e
+
+  inside : low ≤ own → own ≤ high → within r v ≡ true
+  unfolding within number-verdict verdict-code rank pick
+  inside a b =
+      ap (λ (x : Verdict). eqb (verdict-code x) 0)
+      (rank-within (r .kind) (r .low) (r .high) v h patterns
+      (λ e. let p = patterns e in
+      between-finite (r .low) (r .high) v (p .lowest .short) (p .highest .short) w (u .finite-low e) (u .finite-high e)
+      (simp (eq-eqb (r .kind) REAL e) at a) (simp (eq-eqb (r .kind) REAL e) at b))
+      a b)
+
+  outside : within r v ≡ true → (low ≤ own) × (own ≤ high)
+  unfolding within number-verdict
+  outside e =
+      let n : kind-verdict (r .kind) (r .low) (r .high) v ≡ Within = no-code _ e in
+      within-rank (r .kind) (r .low) (r .high) v h patterns
+      (λ q. within-number (r .low) (r .high) v (ap (λ (k : ℕ). kind-verdict k (r .low) (r .high) v) (sym q) ∙ n)) n
+
+  judged : between low high own ≡ within r v
+  unfolding between
+  judged = go (within r v) refl
+    where
+      go : (b : Bool) → within r v ≡ b → (leb low own && leb own high) ≡ b
+      go true e = let o = outside e in rw (le-leb low own (o .0), le-leb own high (o .1))
+      go false e =
+          ⊎-elim (λ l. rw (lt-leb low own l))
+          (λ g. ⊎-elim (λ l. rw (le-leb low own g, lt-leb own high l)) (λ k. rw (le-leb low own g, le-leb own high k) (sym (inside g k) ∙ e)) (lt-or-ge high own))
+          (lt-or-ge own low)
+
+-- a string has no limits, and 0 stands for its number
+zero-between : (kind low high : ℕ) → REAL < kind → low ≡ 0 → high ≡ 0 → between (rank kind low) (rank kind high) (rank kind 0) ≡ true
+unfolding between rank pick
+zero-between kind low high h l g = rw (ne-eqb kind REAL (λ e. omega arith), l, g)
+
+string-judged : (r : Row) → RowRule r → REAL < r .kind → (v : ℕ) → between (rank (r .kind) (r .low)) (rank (r .kind) (r .high)) (rank (r .kind) 0) ≡ within r v
+string-judged r u h v = zero-between (r .kind) (r .low) (r .high) h (u .no-low (omega arith)) (u .no-high (omega arith)) ∙ within-string r v h
+
+module _ (r : Row) (k : Kept r) where
+  pub held-judged : (values : List ℕ) → Bytes values
+      → between (rank (r .kind) (r .low)) (rank (r .kind) (r .high)) (rank (r .kind) (held-number values (r .place) (r .kind))) ≡ within r (number values (r .place) (r .len))
+  unfolding held-number
+  held-judged values b =
+      number-or-string (r .kind)
+      (λ h. rw (le-leb (r .kind) REAL h, ← k .number-is h) (judged r (k .rule) (number values (r .place) (r .len)) (number-narrow values (r .place) (r .len) b (k .sized .short h)) h))
+      (λ h. rw (lt-leb (r .kind) REAL h) (string-judged r (k .rule) h _))
+
+  pub saved-judged : (block : List ℕ) (at : ℕ)
+      → between (rank (r .kind) (r .low)) (rank (r .kind) (r .high)) (rank (r .kind) (saved-number (bits block) at (r .kind) (row-width r))) ≡ within r (field (bits block) at (row-width r))
+  unfolding saved-number
+  saved-judged block at =
+      number-or-string (r .kind)
+      (λ h.
+      let n : row-width r ≤ 32 = omega (arith, width-most (r .kind) (r .len) (k .sized .some), k .sized .short h) in
+      rw (le-leb (r .kind) REAL h) (judged r (k .rule) (field (bits block) at (row-width r)) (field-fits block at (row-width r) 32 n) h))
+      (λ h. rw (lt-leb (r .kind) REAL h) (string-judged r (k .rule) h _))
+
+-- ---- the tests of the code
+
+pub rank-other : (kind v : ℕ) → (kind ≡ REAL → ⊥) → v ≡ rank kind v
+unfolding rank pick
+rank-other kind v d = sym (rw (ne-eqb kind REAL d))
+
+pub rank-plus : (kind v : ℕ) → kind ≡ REAL → v < 2147483648 → 2147483648 + v ≡ rank kind v
+unfolding rank real-rank pick
+rank-plus kind v e h = sym (rw (eq-eqb kind REAL e, lt-ltb v 2147483648 h))
+
+pub rank-minus : (kind v x : ℕ) → kind ≡ REAL → 2147483648 ≤ v → x ≡ 4294967296 - v → x ≡ rank kind v
+unfolding rank real-rank pick
+rank-minus kind v x e h f = f ∙ sym (rw (eq-eqb kind REAL e, le-ltb v 2147483648 h))
+
+module _ (low high x : ℕ) where
+  pub between-low : x < low → false ≡ between low high x
+  unfolding between
+  between-low h = sym (rw (lt-leb low x h))
+
+  pub between-high : low ≤ x → leb x high ≡ between low high x
+  unfolding between
+  between-high h = sym (rw (le-leb low x h))
