@@ -1,6 +1,5 @@
 -- `put_card`: 17 bytes and the 16 behind them are the card; an enable is one bit wide.
 use mathlib.Core.Path.{_∙_}
-use native.Mathlib.Omega.{arith}
 use Rattle.table.specs.Places.{settings-1, settings-2}
 use Rattle.card.proofs.Fields.{point-enables}
 use Rattle.card.proofs.Made.{card-made}
@@ -67,10 +66,11 @@ returns c =
     let two = c .before .before in
     let one = c .before .before .before .before .before .before in
     let s = c .before .before .before .before .before .before .before .before .before .before .before .before in
-    let a = s .before .before .args in
+    let b = s .before .before in
+    let a = b .args in
     card-made (a .values .now) (a .card .now) _ _ _ _ _ _ (λ k. s .shared-slice-known .given k .fits) (λ k. s .before .slice-known .given k .fits) (λ k. c .slice-known3 .given k .fits)
     (two .put-words .kept .0 ∙ one .put-first .kept .0)
-    (omega arith)
+    (b .pre .0)
     (c .before .before .before .before .before .before .before .before .before .before .before .point-at .ensures)
     (c .before .before .before .before .before .before .before .before .before .before .point-at2 .ensures)
     (c .before .before .before .before .before .before .before .before .enables .ensures .0)

@@ -1,7 +1,6 @@
 -- `put_first`: a byte and four words, each two bits ahead of its field.
 use mathlib.Core.Path.{_∙_}
 use Prim.Native.Nat.{_+_, _*_, _/_}
-use native.Mathlib.Omega.{arith}
 use lib.ListN.{length-set}
 use Rattle.card.proofs.Words.{first-put}
 use borrow.Author.Needs.{needs}
@@ -47,7 +46,7 @@ returns : tie.Need-returns
 returns c =
     let s = c .before .before .before .before .before .before .before .before .before in
     let a = s .args in
-    first-put (a .card .now) _ (a .head) (a .a) (a .b) (a .c) (a .d) (a .tail) _ _ _ _ (omega arith) (omega arith) (omega arith) (omega arith) (omega arith) (omega arith) (c .before .before .before .before .before .before .joined .ensures) (c .before .before .before .before .before .joined2 .ensures) (c .before .before .before .before .joined3 .ensures) (c .before .before .before .joined4 .ensures) (c .before .before .put-words .ensures)
+    first-put (a .card .now) _ (a .head) (a .a) (a .b) (a .c) (a .d) (a .tail) _ _ _ _ (s .pre .0) (s .pre .2) (s .fits .a .fits) (s .fits .b .fits) (s .fits .c .fits) (s .fits .d .fits) (c .before .before .before .before .before .before .joined .ensures) (c .before .before .before .before .before .joined2 .ensures) (c .before .before .before .before .joined3 .ensures) (c .before .before .before .joined4 .ensures) (c .before .before .put-words .ensures)
 
 pub put-first-spec : {M : Type 1} → statement M
 put-first-spec =
