@@ -322,9 +322,10 @@ def columns_rt(rows, end):
         ("NV_KIND", "u8", [KINDS.index(r["kind"]) for r in nv]),
         ("NV_AT", "u16", block_starts(rows)[:-1]),
         ("NV_WIDTH", "u16", [block_width(r) for r in nv]),
+        ("NV_CUT", "u8", [block_width(r) if is_number(r) else 32 for r in nv]),
         ("NV_PLACE", "u16", [r["place"] for r in nv]),
         ("NV_LOW", "u32", [rank(r, r["low"]) for r in nv]),
-        ("NV_HIGH", "u32", [rank(r, r["high"]) for r in nv]),
+        ("NV_HIGH", "u32", [rank(r, r["high"]) if is_number(r) else 2**32 - 1 for r in nv]),
     ]
     text = """// The object table as flat constant arrays. tools/table.py writes this file from docs/object-table.md.
 // LIMITS has for each row the number of its limits in MINIMUM and MAXIMUM: few pairs serve all rows, and a column that is

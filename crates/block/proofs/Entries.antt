@@ -14,7 +14,7 @@ use borrow.Author.Tests.{eq-eqb, ne-eqb, le-leb, lt-leb}
 use Rattle.bits.proofs.Numbers.{length-msb, length-bits, num-msb, msb-num, num-lt, small-take, small-msb, small-bits, length-packed, packed-bits, bits-packed}
 use Rattle.bits.proofs.Parts.{field-fits}
 use Rattle.bits.specs.Bits.{msb, bits, num, field, packed, Small, Bytes}
-use Rattle.block.specs.Asked.{Sized, number-len, entry-len, held-number, saved-number}
+use Rattle.block.specs.Asked.{Sized, number-len, entry-len, held-number}
 use Rattle.block.specs.Block.{width, entry-bits, entry-bytes, within}
 use Rattle.entry.proofs.RowLaws.{no-number, bool-within}
 use Rattle.entry.specs.Limits.{verdict-code}
@@ -182,24 +182,15 @@ module _ (values : List ℕ) (place kind : ℕ) where
   unfolding held-number
   held-some h e l = e ∙ sym (rw (le-leb kind REAL h, l))
 
-module _ (bs : List ℕ) (at kind w : ℕ) where
-  pub saved-none : REAL < kind → 0 ≡ saved-number bs at kind w
-  unfolding saved-number
-  saved-none h = sym (rw (lt-leb kind REAL h))
-
-  pub saved-some : kind ≤ REAL → field bs at w ≡ saved-number bs at kind w
-  unfolding saved-number
-  saved-some h = sym (rw (le-leb kind REAL h))
-
 -- an entry that is taken out of a block, and one that is saved in it
 module _ (kind w : ℕ) (at-width : w ≡ width kind (entry-len kind w)) where
   pub taken-string : (bs : List ℕ) → REAL < kind → packed (w / 8) bs ≡ entry-bytes kind (entry-len kind w) bs
   taken-string bs h = ap (λ (n : ℕ). packed n bs) (sym (len-string kind w h)) ∙ sym (bytes-string kind (entry-len kind w) bs h)
 
-  pub taken-number : (bs : List ℕ) (at : ℕ) {v : ℕ} → kind ≤ REAL → v ≡ saved-number bs at kind w → little (number-len kind) v ≡ entry-bytes kind (entry-len kind w) (drop at bs)
+  pub taken-number : (bs : List ℕ) (at : ℕ) {v : ℕ} → kind ≤ REAL → v ≡ field bs at w → little (number-len kind) v ≡ entry-bytes kind (entry-len kind w) (drop at bs)
   unfolding field
   taken-number bs at h e =
-      ap (little (number-len kind)) (e ∙ sym (saved-some bs at kind w h) ∙ ap (λ (k : ℕ). num (take k (drop at bs))) at-width)
+      ap (little (number-len kind)) (e ∙ ap (λ (k : ℕ). num (take k (drop at bs))) at-width)
       ∙ ap (λ (n : ℕ). little n (num (take (width kind (entry-len kind w)) (drop at bs)))) (sym (len-number kind w h))
       ∙ sym (bytes-number kind (entry-len kind w) (drop at bs) h)
 
@@ -226,6 +217,6 @@ module _ (kind w : ℕ) (at-width : w ≡ width kind (entry-len kind w)) where
     number-inside h = omega (arith, len-number kind w h, z .inside)
 
     -- the number of a saved entry fits its bytes
-    pub number-fits : (block : List ℕ) (at : ℕ) {v : ℕ} → kind ≤ REAL → v ≡ saved-number (bits block) at kind w → v < 2 ^ (8 * number-len kind)
+    pub number-fits : (block : List ℕ) (at : ℕ) {v : ℕ} → kind ≤ REAL → v ≡ field (bits block) at w → v < 2 ^ (8 * number-len kind)
     number-fits block at h e =
-        rw (e, ← saved-some (bits block) at kind w h) (field-fits block at w (8 * number-len kind) (omega (arith, len-number kind w h, width-most kind (entry-len kind w) (z .some))))
+        rw e (field-fits block at w (8 * number-len kind) (omega (arith, len-number kind w h, width-most kind (entry-len kind w) (z .some))))

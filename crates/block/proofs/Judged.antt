@@ -9,9 +9,9 @@ use lib.Dec.{eqb, leb}
 use borrow.Author.Tests.{eq-eqb, ne-eqb, le-leb, lt-leb, le-ltb, lt-ltb}
 use Rattle.bits.proofs.Parts.{field-fits}
 use Rattle.bits.specs.Bits.{bits, field, Bytes}
-use Rattle.block.proofs.Entries.{number-or-string, no-code, number-narrow, within-string, width-most}
+use Rattle.block.proofs.Entries.{number-or-string, no-code, number-narrow, within-string, width-some, width-most}
 use Rattle.block.proofs.Kept.{Kept}
-use Rattle.block.specs.Asked.{between, held-number, saved-number, number-len}
+use Rattle.block.specs.Asked.{cut, lowest, highest, between, held-number, number-len}
 use Rattle.block.specs.Block.{row-width, within}
 use Rattle.entry.proofs.LimitsLaws.{rank-within, within-rank, within-number}
 use Rattle.entry.proofs.RowLaws.{judgeable, between-finite}
@@ -66,32 +66,44 @@ module _ (r : Row) (u : RowRule r) (v : ℕ) (w : v < 4294967296) (h : r .kind �
           (λ g. ⊎-elim (λ l. rw (le-leb low own g, lt-leb own high l)) (λ k. rw (le-leb low own g, le-leb own high k) (sym (inside g k) ∙ e)) (lt-or-ge high own))
           (lt-or-ge own low)
 
--- a string has no limits, and 0 stands for its number
-zero-between : (kind low high : ℕ) → REAL < kind → low ≡ 0 → high ≡ 0 → between (rank kind low) (rank kind high) (rank kind 0) ≡ true
+-- a string has no limits: any number passes
+all-between : (kind low v : ℕ) → REAL < kind → low ≡ 0 → v < 4294967296 → between (rank kind low) 4294967295 (rank kind v) ≡ true
 unfolding between rank pick
-zero-between kind low high h l g = rw (ne-eqb kind REAL (λ e. omega arith), l, g)
-
-string-judged : (r : Row) → RowRule r → REAL < r .kind → (v : ℕ) → between (rank (r .kind) (r .low)) (rank (r .kind) (r .high)) (rank (r .kind) 0) ≡ within r v
-string-judged r u h v = zero-between (r .kind) (r .low) (r .high) h (u .no-low (omega arith)) (u .no-high (omega arith)) ∙ within-string r v h
+all-between kind low v h l w = rw (ne-eqb kind REAL (λ e. omega arith), l, le-leb 0 v (omega arith), le-leb v 4294967295 (omega arith))
 
 module _ (r : Row) (k : Kept r) where
+  string-judged : REAL < r .kind → (x v : ℕ) → x < 4294967296 → between (lowest r) 4294967295 (rank (r .kind) x) ≡ within r v
+  unfolding lowest
+  string-judged h x v w = all-between (r .kind) (r .low) x h (k .rule .no-low (omega arith)) w ∙ within-string r v h
+
   pub held-judged : (values : List ℕ) → Bytes values
-      → between (rank (r .kind) (r .low)) (rank (r .kind) (r .high)) (rank (r .kind) (held-number values (r .place) (r .kind))) ≡ within r (number values (r .place) (r .len))
-  unfolding held-number
+      → between (lowest r) (highest r) (rank (r .kind) (held-number values (r .place) (r .kind))) ≡ within r (number values (r .place) (r .len))
+  unfolding held-number lowest highest
   held-judged values b =
       number-or-string (r .kind)
       (λ h. rw (le-leb (r .kind) REAL h, ← k .number-is h) (judged r (k .rule) (number values (r .place) (r .len)) (number-narrow values (r .place) (r .len) b (k .sized .short h)) h))
-      (λ h. rw (lt-leb (r .kind) REAL h) (string-judged r (k .rule) h _))
+      (λ h. rw (lt-leb (r .kind) REAL h) (string-judged h 0 _ (omega arith)))
+
+  -- the bits that are looked at are at most 32
+  pub cut-is : r .kind ≤ REAL → cut r ≡ row-width r
+  unfolding cut
+  cut-is h = rw (le-leb (r .kind) REAL h)
+
+  pub cut-fits : (1 ≤ cut r) × (cut r ≤ 32)
+  unfolding cut
+  cut-fits =
+      number-or-string (r .kind)
+      (λ h. rw (le-leb (r .kind) REAL h) (width-some (r .kind) (r .len) (k .sized .some), omega (arith, width-most (r .kind) (r .len) (k .sized .some), k .sized .short h)))
+      (λ h. rw (lt-leb (r .kind) REAL h) (omega arith, omega arith))
 
   pub saved-judged : (block : List ℕ) (at : ℕ)
-      → between (rank (r .kind) (r .low)) (rank (r .kind) (r .high)) (rank (r .kind) (saved-number (bits block) at (r .kind) (row-width r))) ≡ within r (field (bits block) at (row-width r))
-  unfolding saved-number
+      → between (lowest r) (highest r) (rank (r .kind) (field (bits block) at (cut r))) ≡ within r (field (bits block) at (row-width r))
+  unfolding cut lowest highest
   saved-judged block at =
+      let f : (w : ℕ) → w ≤ 32 → field (bits block) at w < 4294967296 = λ w n. field-fits block at w 32 n in
       number-or-string (r .kind)
-      (λ h.
-      let n : row-width r ≤ 32 = omega (arith, width-most (r .kind) (r .len) (k .sized .some), k .sized .short h) in
-      rw (le-leb (r .kind) REAL h) (judged r (k .rule) (field (bits block) at (row-width r)) (field-fits block at (row-width r) 32 n) h))
-      (λ h. rw (lt-leb (r .kind) REAL h) (string-judged r (k .rule) h _))
+      (λ h. rw (le-leb (r .kind) REAL h) (judged r (k .rule) (field (bits block) at (row-width r)) (f (row-width r) (omega (arith, width-most (r .kind) (r .len) (k .sized .some), k .sized .short h))) h))
+      (λ h. rw (lt-leb (r .kind) REAL h) (string-judged h (field (bits block) at 32) _ (f 32 (omega arith))))
 
 -- ---- the tests of the code
 

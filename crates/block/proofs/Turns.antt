@@ -11,13 +11,13 @@ use lib.ListN.{length, take, drop, getD, set, length-map, drop-of-length-le}
 use lib.Seq.{take-suc, take-suc-set, getD-take}
 use borrow.Author.Tests.{le-leb}
 use Rattle.bits.specs.Bits.{bits, field, Bytes}
-use Rattle.block.proofs.Entries.{length-entry, entry-some, entry-narrow}
-use Rattle.block.proofs.Judged.{held-judged, saved-judged}
+use Rattle.block.proofs.Entries.{length-entry}
+use Rattle.block.proofs.Judged.{held-judged, cut-is, cut-fits, saved-judged}
 use Rattle.block.proofs.Kept.{Kept, kept}
 use Rattle.block.proofs.Tables.{table-keeps, table-used}
 use Rattle.block.proofs.Walking.{Keeps, keeps-at, keeps-take, fits, part-long, length-saved, length-starts, length-numbers, widths-next, widths-all, saved-next, load-next, number-here, held-next, saved-front-next, start-here}
 use Rattle.block.proofs.Zeros.{zero-behind}
-use Rattle.block.specs.Asked.{starts, Fields, Places, Limits, Sized, entry-len, held-number, saved-number, between, held-front, saved-front, saved-numbers, Front}
+use Rattle.block.specs.Asked.{starts, Fields, cut, Cuts, Places, lowest, highest, Limits, Sized, entry-len, held-number, between, held-front, saved-front, saved-numbers, Front}
 use Rattle.block.specs.Block.{width, row-width, part, entry-bits, entry-bytes, within, nv-rows, widths, saved, load-rows, all-zero}
 use Rattle.block.specs.Saved.{nv}
 use Rattle.table.proofs.Table.{rows-pass, row-rule}
@@ -76,7 +76,7 @@ places-long places are = column-long (λ (r : Row). r .place) places are
 
 pub limits-long : (lows highs : List ℕ) → Limits lows highs → (length lows ≡ nv-count) × (length highs ≡ nv-count)
 limits-long lows highs lent =
-    (column-long (λ (r : Row). rank (r .kind) (r .low)) lows (lent .lows-are), column-long (λ (r : Row). rank (r .kind) (r .high)) highs (lent .highs-are))
+    (column-long lowest lows (lent .lows-are), column-long highest highs (lent .highs-are))
 
 pub place-at : (places : List ℕ) → Places places → (i : ℕ) → i < nv-count → getD places i 0 ≡ at-nv i .place
 place-at places are i h = column-at (λ (r : Row). r .place) places are i h
@@ -98,6 +98,23 @@ here {kinds} {ats} {widths} lent i h e f =
       width-is = f ∙ column-at (λ (r : Row). row-width r) widths (lent .widths-are) i h;
     }
 
+-- the same without the widths, and the bits that are looked at
+pub seen : {kinds ats cuts : List ℕ} → Cuts kinds ats cuts → (i : ℕ) → i < nv-count → {at : ℕ} → at ≡ getD ats i 0 → Here i (getD kinds i 0) at (row-width (at-nv i))
+seen {kinds} {ats} {cuts} lent i h e =
+    record {
+      there = h;
+      kind-is = column-at (λ (r : Row). r .kind) kinds (lent .kinds-are) i h;
+      at-is = e ∙ ap (λ (x : List ℕ). getD x i 0) (lent .ats-are) ∙ start-here nv i (omega (arith, nv-length)) 8;
+      width-is = refl;
+    }
+
+pub cut-at : {kinds ats cuts : List ℕ} → Cuts kinds ats cuts → (i : ℕ) → i < nv-count → getD cuts i 0 ≡ cut (at-nv i)
+cut-at {kinds} {ats} {cuts} lent i h = column-at cut cuts (lent .cuts-are) i h
+
+pub cuts-long : {kinds ats cuts : List ℕ} → Cuts kinds ats cuts → (length kinds ≡ nv-count) × (length ats ≡ nv-count) × (length cuts ≡ nv-count)
+cuts-long {kinds} {ats} {cuts} lent =
+    (column-long (λ (r : Row). r .kind) kinds (lent .kinds-are), ap length (lent .ats-are) ∙ length-starts 8 nv ∙ nv-length, column-long cut cuts (lent .cuts-are))
+
 module _ {i kind at width' : ℕ} (g : Here i kind at width') where
   inside : i < length nv
   inside = let h = g .there in omega (arith, nv-length)
@@ -117,50 +134,48 @@ module _ {i kind at width' : ℕ} (g : Here i kind at width') where
   pub room : at + width' ≤ nv-end
   room = let a = g .at-is in let w = g .width-is in omega (arith, widths-all nv i inside, nv-ends)
 
-  pub some : 1 ≤ width'
-  some = entry-some kind width' width-here (sized-here refl)
-
-  pub narrow : kind ≤ REAL → width' ≤ 32
-  narrow h = entry-narrow kind width' width-here (sized-here refl) h
+  pub cut-here : {c : ℕ} → c ≡ cut (at-nv i) → (1 ≤ c) × (c ≤ 32)
+  cut-here q = rw q (cut-fits (at-nv i) row-kept)
 
   -- ---- the walks
 
   -- the numbers
-  saved-is : (bs : List ℕ) → saved-number bs at kind width' ≡ getD (saved-numbers bs 8 nv) i 0
-  saved-is bs = rw (g .kind-is, g .at-is, g .width-is) (sym (number-here nv i inside bs 8))
+  saved-is : (bs : List ℕ) {c : ℕ} → c ≡ cut (at-nv i) → field bs at c ≡ getD (saved-numbers bs 8 nv) i 0
+  saved-is bs q = rw (g .at-is, q) (sym (number-here nv i inside bs 8))
 
   numbers-long : (bs : List ℕ) → i < length (saved-numbers bs 8 nv)
   numbers-long bs = let h = inside in omega (arith, length-numbers bs 8 nv)
 
-  pub numbers-turn : (bs numbers : List ℕ) {v : ℕ} → i < length numbers → v ≡ saved-number bs at kind width' → Front bs numbers i → Front bs (set numbers i v) (i + 1)
-  numbers-turn bs numbers {v} h e f =
+  pub numbers-turn : (bs numbers : List ℕ) {c v : ℕ} → c ≡ cut (at-nv i) → i < length numbers → v ≡ field bs at c → Front bs numbers i → Front bs (set numbers i v) (i + 1)
+  numbers-turn bs numbers {c} {v} q h e f =
       let s : List ℕ = saved-numbers bs 8 nv in
       rw (add-one i)
       (take-suc-set numbers i v h
       ∙ ap (λ (l : List ℕ). l ++ (v ∷ [])) f
-      ∙ ap (λ (x : ℕ). take i s ++ (x ∷ [])) (e ∙ saved-is bs)
+      ∙ ap (λ (x : ℕ). take i s ++ (x ∷ [])) (e ∙ saved-is bs q)
       ∙ sym (take-suc s i 0 (numbers-long bs)))
 
-  pub number-known : (bs numbers : List ℕ) (n : ℕ) → i < n → Front bs numbers n → getD numbers i 0 ≡ saved-number bs at kind width'
-  number-known bs numbers n h f =
-      sym (getD-take n numbers i 0 h) ∙ ap (λ (l : List ℕ). getD l i 0) f ∙ getD-take n (saved-numbers bs 8 nv) i 0 h ∙ sym (saved-is bs)
+  pub number-known : (bs numbers : List ℕ) (n : ℕ) → i < n → Front bs numbers n → kind ≤ REAL → getD numbers i 0 ≡ field bs at width'
+  number-known bs numbers n h f k =
+      let q : width' ≡ cut (at-nv i) = g .width-is ∙ sym (cut-is (at-nv i) row-kept (let e = g .kind-is in omega arith)) in
+      sym (getD-take n numbers i 0 h) ∙ ap (λ (l : List ℕ). getD l i 0) f ∙ getD-take n (saved-numbers bs 8 nv) i 0 h ∙ sym (saved-is bs q)
 
   -- the limits: an answer by rank is the row's
   module _ {lows highs : List ℕ} (lent : Limits lows highs) (v : ℕ) {answer b : Bool} (says : answer ≡ between (getD lows i 0) (getD highs i 0) (rank kind v)) (is : answer ≡ b) where
-    low-here : getD lows i 0 ≡ rank (at-nv i .kind) (at-nv i .low)
-    low-here = column-at (λ (r : Row). rank (r .kind) (r .low)) lows (lent .lows-are) i (g .there)
+    low-here : getD lows i 0 ≡ lowest (at-nv i)
+    low-here = column-at lowest lows (lent .lows-are) i (g .there)
 
-    high-here : getD highs i 0 ≡ rank (at-nv i .kind) (at-nv i .high)
-    high-here = column-at (λ (r : Row). rank (r .kind) (r .high)) highs (lent .highs-are) i (g .there)
+    high-here : getD highs i 0 ≡ highest (at-nv i)
+    high-here = column-at highest highs (lent .highs-are) i (g .there)
 
-    by-rank : (x : ℕ) → v ≡ x → between (rank (at-nv i .kind) (at-nv i .low)) (rank (at-nv i .kind) (at-nv i .high)) (rank (at-nv i .kind) x) ≡ b
+    by-rank : (x : ℕ) → v ≡ x → between (lowest (at-nv i)) (highest (at-nv i)) (rank (at-nv i .kind) x) ≡ b
     by-rank x e = sym (says ∙ rw (low-here, high-here, g .kind-is, e)) ∙ is
 
     pub held-within : (values : List ℕ) {place : ℕ} → place ≡ at-nv i .place → Bytes values → v ≡ held-number values place kind → within (at-nv i) (number values (at-nv i .place) (at-nv i .len)) ≡ b
     held-within values p hb e = sym (held-judged (at-nv i) row-kept values hb) ∙ by-rank _ (e ∙ rw (p, g .kind-is))
 
-    pub saved-within : (block : List ℕ) → v ≡ saved-number (bits block) at kind width' → within (at-nv i) (field (bits block) (8 + widths (take i nv)) (row-width (at-nv i))) ≡ b
-    saved-within block e = sym (saved-judged (at-nv i) row-kept block (8 + widths (take i nv))) ∙ by-rank _ (e ∙ rw (g .at-is, g .width-is, g .kind-is))
+    pub saved-within : (block : List ℕ) {c : ℕ} → c ≡ cut (at-nv i) → v ≡ field (bits block) at c → within (at-nv i) (field (bits block) (8 + widths (take i nv)) (row-width (at-nv i))) ≡ b
+    saved-within block q e = sym (saved-judged (at-nv i) row-kept block (8 + widths (take i nv))) ∙ by-rank _ (e ∙ rw (g .at-is, q))
 
   -- how far the good ones go
   pub saved-on : (bs : List ℕ) → within (at-nv i) (field bs (8 + widths (take i nv)) (row-width (at-nv i))) ≡ true → saved-front bs 8 nv ≡ i + saved-front bs (8 + widths (take i nv)) (drop i nv)

@@ -14,7 +14,7 @@ use borrow.Author.Tests.{eq-eqb, ne-eqb, eqb-true, eqb-false}
 use Rattle.bits.specs.Bits.{field, Bytes}
 use Rattle.block.proofs.Entries.{width-bool, width-bytes, length-entry, within-bool}
 use Rattle.block.proofs.Kept.{Kept, kept}
-use Rattle.block.specs.Asked.{starts, saved-number, held-front, saved-front, saved-numbers}
+use Rattle.block.specs.Asked.{starts, cut, held-front, saved-front, saved-numbers}
 use Rattle.block.specs.Block.{width, row-width, part, entry-bits, entry-bytes, within, nv-rows, widths, saved, load-rows, values-good, rows-good}
 use Rattle.table.proofs.Rules.{row-ok→rule}
 use Rattle.table.proofs.Walks.{both-left, both-right, lt-or-ge}
@@ -142,13 +142,13 @@ load-append bs at (x ∷ xs) ys values =
     load-append bs (at + row-width x) xs ys (splice values (x .place) (entry-bytes (x .kind) (x .len) (drop at bs)))
     ∙ ap (λ (k : ℕ). load-rows bs k ys (load-rows bs (at + row-width x) xs (splice values (x .place) (entry-bytes (x .kind) (x .len) (drop at bs))))) (add-assoc at (row-width x) (widths xs))
 
-numbers-at : (bs : List ℕ) (at : ℕ) (rs : List Row) (i : ℕ) → i < length rs → getD (saved-numbers bs at rs) i 0 ≡ saved-number bs (at + widths (take i rs)) (getD rs i no-row .kind) (row-width (getD rs i no-row))
+numbers-at : (bs : List ℕ) (at : ℕ) (rs : List Row) (i : ℕ) → i < length rs → getD (saved-numbers bs at rs) i 0 ≡ field bs (at + widths (take i rs)) (cut (getD rs i no-row))
 unfolding saved-numbers widths
 numbers-at bs at [] i h = absurd (not-suc-le-zero h)
-numbers-at bs at (r ∷ rs) zero h = ap (λ (k : ℕ). saved-number bs k (r .kind) (row-width r)) (sym (add-zero at))
+numbers-at bs at (r ∷ rs) zero h = ap (λ (k : ℕ). field bs k (cut r)) (sym (add-zero at))
 numbers-at bs at (r ∷ rs) (suc i) h =
     numbers-at bs (at + row-width r) rs i (le-of-suc-le-suc h)
-    ∙ ap (λ (k : ℕ). saved-number bs k (getD rs i no-row .kind) (row-width (getD rs i no-row))) (add-assoc at (row-width r) (widths (take i rs)))
+    ∙ ap (λ (k : ℕ). field bs k (cut (getD rs i no-row))) (add-assoc at (row-width r) (widths (take i rs)))
 
 pub length-numbers : (bs : List ℕ) (at : ℕ) (rs : List Row) → length (saved-numbers bs at rs) ≡ length rs
 unfolding saved-numbers
@@ -234,7 +234,7 @@ module _ (rs : List Row) (i : ℕ) (h : i < length rs) where
   unfolding load-rows
   load-next bs at values = ap (λ (l : List Row). load-rows bs at l values) one-more ∙ load-append bs at (take i rs) (here ∷ []) values
 
-  pub number-here : (bs : List ℕ) (at : ℕ) → getD (saved-numbers bs at rs) i 0 ≡ saved-number bs (at + widths (take i rs)) (here .kind) (row-width here)
+  pub number-here : (bs : List ℕ) (at : ℕ) → getD (saved-numbers bs at rs) i 0 ≡ field bs (at + widths (take i rs)) (cut here)
   number-here bs at = numbers-at bs at rs i h
 
   -- an answer says whether the entry is within its limits

@@ -24,13 +24,28 @@ pub record Fields (kinds ats widths : List ℕ) : Type 0 where
   pub ats-are : ats ≡ starts 8 nv
   pub widths-are : widths ≡ map (λ (r : Row). row-width r) nv
 
+-- the bits that are looked at as a number: of a string the first 32, which no limit refuses
+unfoldable pub cut : Row → ℕ
+cut r = cond (leb (r .kind) REAL) (row-width r) 32
+
+pub record Cuts (kinds ats cuts : List ℕ) : Type 0 where
+  pub kinds-are : kinds ≡ map (λ (r : Row). r .kind) nv
+  pub ats-are : ats ≡ starts 8 nv
+  pub cuts-are : cuts ≡ map cut nv
+
 abbrev pub Places : List ℕ → Type 0
 Places places = places ≡ map (λ (r : Row). r .place) nv
 
 -- limits, as places in the order of the type
+unfoldable pub lowest : Row → ℕ
+lowest r = rank (r .kind) (r .low)
+
+unfoldable pub highest : Row → ℕ
+highest r = cond (leb (r .kind) REAL) (rank (r .kind) (r .high)) 4294967295
+
 pub record Limits (lows highs : List ℕ) : Type 0 where
-  pub lows-are : lows ≡ map (λ (r : Row). rank (r .kind) (r .low)) nv
-  pub highs-are : highs ≡ map (λ (r : Row). rank (r .kind) (r .high)) nv
+  pub lows-are : lows ≡ map lowest nv
+  pub highs-are : highs ≡ map highest nv
 
 -- ---- an entry
 
@@ -49,12 +64,9 @@ pub record Sized (kind len place : ℕ) : Type 0 where
   pub short : kind ≤ REAL → len ≤ 4
   pub inside : place + len ≤ 1024
 
--- its number, in the values and in the bits; a string has none, and 0 stands for it
+-- its number in the values; a string has none, and 0 stands for it
 unfoldable pub held-number : List ℕ → ℕ → ℕ → ℕ
 held-number values place kind = cond (leb kind REAL) (number values place (number-len kind)) 0
-
-unfoldable pub saved-number : List ℕ → ℕ → ℕ → ℕ → ℕ
-saved-number bs at kind width = cond (leb kind REAL) (field bs at width) 0
 
 unfoldable pub between : ℕ → ℕ → ℕ → Bool
 between low high x = leb low x && leb x high
@@ -73,7 +85,7 @@ saved-front bs at (r ∷ rs) = cond (within r (field bs at (row-width r))) (suc 
 -- the entries' numbers
 unfoldable pub saved-numbers : List ℕ → ℕ → List Row → List ℕ
 saved-numbers bs at [] = []
-saved-numbers bs at (r ∷ rs) = saved-number bs at (r .kind) (row-width r) ∷ saved-numbers bs (at + row-width r) rs
+saved-numbers bs at (r ∷ rs) = field bs at (cut r) ∷ saved-numbers bs (at + row-width r) rs
 
 -- the first n of them are known
 abbrev pub Front : List ℕ → List ℕ → ℕ → Type 0

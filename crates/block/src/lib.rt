@@ -3,9 +3,9 @@ use table::columns;
 use wire::wide;
 ghost use mathlib.Core.Path.{_≡_};
 ghost use mathlib.Core.Bool.{true, cond};
-ghost use Prim.Native.Nat.{_+_, _*_, _/_, _^_, _≤_, _<_};
+ghost use Prim.Native.Nat.{_+_, _*_, _^_, _≤_, _<_};
 ghost use lib.ListN.{length, take, drop, replicate};
-ghost use Rattle.bits.specs.Bits.{bits, msb};
+ghost use Rattle.bits.specs.Bits.{bits, msb, field};
 ghost use Rattle.table.specs.Row.{REAL};
 ghost use Rattle.table.specs.Rows.{nv-count};
 ghost use Rattle.table.specs.Rule.{rank};
@@ -13,7 +13,7 @@ ghost use Rattle.wire.specs.Little.{little};
 ghost use Rattle.wire.specs.Splice.{splice};
 ghost use Rattle.block.specs.Block.{LAYOUT, BAG552, width as width-by, entry-bits, entry-bytes, saved, load-rows, all-zero};
 ghost use Rattle.block.specs.Saved.{nv, storable, stored, loadable, loaded};
-ghost use Rattle.block.specs.Asked.{Fields, Places, Limits, Sized, number-len, entry-len, held-number, saved-number, between, held-front, saved-front, Front};
+ghost use Rattle.block.specs.Asked.{Fields, Cuts, Places, Limits, Sized, number-len, entry-len, held-number, between, held-front, saved-front, Front};
 
 const LAYOUT: u32 = 1;
 
@@ -53,17 +53,6 @@ fn put_number(values: &mut [u8], place: usize, kind: u8, v: u32)
     wire::put_byte(values, place, v as u8);
 }
 
-// The number of an entry in the block, 0 for a string.
-fn saved_number(block: &[u8], at: usize, kind: u8, width: usize) -> u32
-    requires { ⌜ (at / 8 + 8 ≤ length (now block)) × (at ≤ 4096) × (1 ≤ width) × (kind ≤ REAL → width ≤ 32) ⌝ }
-    ensures { λ r. ⌜ r ≡ saved-number (bits (now (block .entry))) at kind width ⌝ }
-{
-    if 5 < kind {
-        return 0;
-    }
-    bits::cut_field(block, at, width)
-}
-
 // The place of a number in the order of its type.
 fn rank_of(kind: u8, v: u32) -> u32
     ensures { λ r. ⌜ r ≡ rank kind v ⌝ }
@@ -77,10 +66,9 @@ fn rank_of(kind: u8, v: u32) -> u32
     4294967295 - v + 1
 }
 
-fn is_within(kind: u8, low: u32, high: u32, v: u32) -> bool
-    ensures { λ r. ⌜ r ≡ between low high (rank kind v) ⌝ }
+fn is_between(low: u32, high: u32, x: u32) -> bool
+    ensures { λ r. ⌜ r ≡ between low high x ⌝ }
 {
-    let x = rank_of(kind, v);
     if x < low {
         return false;
     }
@@ -98,7 +86,7 @@ fn take_entry(
     values: &mut [u8],
     place: usize,
 )
-    requires { ⌜ Sized kind (entry-len kind width) place × (width ≡ width-by kind (entry-len kind width)) × (length (now values) ≡ 1024) × (length (now block) ≡ 512) × (at + width ≤ 4096) × (v ≡ saved-number (bits (now block)) at kind width) ⌝ }
+    requires { ⌜ Sized kind (entry-len kind width) place × (width ≡ width-by kind (entry-len kind width)) × (length (now values) ≡ 1024) × (length (now block) ≡ 512) × (at + width ≤ 4096) × (kind ≤ REAL → v ≡ field (bits (now block)) at width) ⌝ }
     ensures { λ _. ⌜ now (values .exit) ≡ splice (now (values .entry)) place (entry-bytes kind (entry-len kind width) (drop at (bits (now (block .entry))))) ⌝ }
 {
     if 5 < kind {
@@ -134,22 +122,23 @@ fn save_entry(
 fn good_entries(
     kinds: &[u8],
     ats: &[u16],
-    widths: &[u16],
+    cuts: &[u8],
     lows: &[u32],
     highs: &[u32],
     block: &[u8],
     numbers: &mut [u32],
 ) -> usize
-    requires { ⌜ Fields (now kinds) (now ats) (now widths) × Limits (now lows) (now highs) × (length (now block) ≡ 512) × (length (now numbers) ≡ nv-count) ⌝ }
+    requires { ⌜ Cuts (now kinds) (now ats) (now cuts) × Limits (now lows) (now highs) × (length (now block) ≡ 512) × (length (now numbers) ≡ nv-count) ⌝ }
     ensures { λ r. ⌜ (r ≡ saved-front (bits (now (block .entry))) 8 nv) × Front (bits (now (block .entry))) (now (numbers .exit)) r ⌝ }
 {
     let mut i = 0;
     while i < columns::NV_ROWS {
         let kind = kinds[i];
         let at = wide::pair_to_usize(ats[i]);
-        let width = wide::pair_to_usize(widths[i]);
-        let v = saved_number(block, at, kind, width);
-        if !is_within(kind, lows[i], highs[i], v) {
+        let cut = wide::to_usize(cuts[i]);
+        let v = bits::cut_field(block, at, cut);
+        let x = rank_of(kind, v);
+        if !is_between(lows[i], highs[i], x) {
             return i;
         }
         numbers[i] = v;
@@ -165,7 +154,7 @@ fn take_entries(
     ats: &[u16],
     widths: &[u16],
     places: &[u16],
-    numbers: &[u32; 38],
+    numbers: &[u32; columns::NV_ROWS],
     block: &[u8],
     values: &mut [u8],
 )
@@ -201,7 +190,8 @@ fn save_entries(
         let kind = kinds[i];
         let place = wide::pair_to_usize(places[i]);
         let v = held_number(values, place, kind);
-        if !is_within(kind, lows[i], highs[i], v) {
+        let x = rank_of(kind, v);
+        if !is_between(lows[i], highs[i], x) {
             return i;
         }
         let at = wide::pair_to_usize(ats[i]);
@@ -248,13 +238,13 @@ fn rest_zero(block: &[u8], end: usize) -> bool
 fn entries_taken(
     kinds: &[u8],
     ats: &[u16],
-    widths: &[u16],
+    cuts: &[u8],
     lows: &[u32],
     highs: &[u32],
     block: &[u8],
     numbers: &mut [u32],
 ) -> usize
-    requires { ⌜ Fields (now kinds) (now ats) (now widths) × Limits (now lows) (now highs) × (length (now block) ≡ 512) × (length (now numbers) ≡ nv-count) ⌝ }
+    requires { ⌜ Cuts (now kinds) (now ats) (now cuts) × Limits (now lows) (now highs) × (length (now block) ≡ 512) × (length (now numbers) ≡ nv-count) ⌝ }
     ensures { λ r. ⌜ (r ≡ cond (loadable (now (block .entry))) nv-count 0) × Front (bits (now (block .entry))) (now (numbers .exit)) r ⌝ }
 {
     if bits::get_field(block, 0, 4) != LAYOUT {
@@ -266,7 +256,7 @@ fn entries_taken(
     if !rest_zero(block, columns::NV_END) {
         return 0;
     }
-    let good = good_entries(kinds, ats, widths, lows, highs, block, numbers);
+    let good = good_entries(kinds, ats, cuts, lows, highs, block, numbers);
     if good < columns::NV_ROWS {
         return 0;
     }
@@ -277,17 +267,18 @@ fn load_by(
     kinds: &[u8],
     ats: &[u16],
     widths: &[u16],
+    cuts: &[u8],
     places: &[u16],
     lows: &[u32],
     highs: &[u32],
     block: &[u8],
     values: &mut [u8],
 ) -> bool
-    requires { ⌜ Fields (now kinds) (now ats) (now widths) × Places (now places) × Limits (now lows) (now highs) × (length (now values) ≡ 1024) × (length (now block) ≡ 512) ⌝ }
+    requires { ⌜ Fields (now kinds) (now ats) (now widths) × Cuts (now kinds) (now ats) (now cuts) × Places (now places) × Limits (now lows) (now highs) × (length (now values) ≡ 1024) × (length (now block) ≡ 512) ⌝ }
     ensures { λ r. ⌜ (r ≡ loadable (now (block .entry))) × (now (values .exit) ≡ loaded (now (block .entry)) (now (values .entry))) ⌝ }
 {
-    let mut numbers = [0u32; 38];
-    let n = entries_taken(kinds, ats, widths, lows, highs, block, &mut numbers);
+    let mut numbers = [0u32; columns::NV_ROWS];
+    let n = entries_taken(kinds, ats, cuts, lows, highs, block, &mut numbers);
     take_entries(n, kinds, ats, widths, places, &numbers, block, values);
     0 < n
 }
@@ -345,12 +336,12 @@ pub fn is_good(block: &[u8]) -> bool
     requires { ⌜ length (now block) ≡ 512 ⌝ }
     ensures { λ r. ⌜ r ≡ loadable (now (block .entry)) ⌝ }
 {
-    let mut numbers = [0u32; 38];
+    let mut numbers = [0u32; columns::NV_ROWS];
     0
         < entries_taken(
             &columns::NV_KIND,
             &columns::NV_AT,
-            &columns::NV_WIDTH,
+            &columns::NV_CUT,
             &columns::NV_LOW,
             &columns::NV_HIGH,
             block,
@@ -384,6 +375,7 @@ pub fn load(block: &[u8], values: &mut [u8]) -> bool
         &columns::NV_KIND,
         &columns::NV_AT,
         &columns::NV_WIDTH,
+        &columns::NV_CUT,
         &columns::NV_PLACE,
         &columns::NV_LOW,
         &columns::NV_HIGH,

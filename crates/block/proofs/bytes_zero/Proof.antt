@@ -3,14 +3,14 @@ use mathlib.Core.Bool.{Bool, _&&_}
 use mathlib.Core.Logic.{⊎-elim}
 use mathlib.Core.Path.{_≡_, _∙_, sym, ap, refl}
 use Prim.Native.Nat.{_+_, _-_, _*_, _≤_}
+use native.Mathlib.Omega.{arith}
 use lib.Dec.{eqb}
 use lib.ListN.{drop, getD}
 use Rattle.bits.proofs.Numbers.{length-bits}
 use Rattle.bits.specs.Bits.{bits}
 use Rattle.block.proofs.Zeros.{and-last, zero-byte, zero-end, most-more, most-same}
-use Rattle.block.specs.Block.{all-zero}
 use Rattle.block.proofs.bytes_zero.Statement.{statement}
-use native.Mathlib.Omega.{arith}
+use Rattle.block.specs.Block.{all-zero}
 use Rattle.block.proofs.bytes_zero.Tie as tie
 
 abbrev Inv-loop : tie.InvT-loop

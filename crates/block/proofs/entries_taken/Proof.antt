@@ -1,10 +1,10 @@
 -- `entries_taken` meets its contract: layout, model, rest and entries, each by its law. Assumes nothing.
 use mathlib.Core.Path.{refl}
+use native.Mathlib.Omega.{arith}
 use borrow.Author.Tests.{not-true, not-false}
+use borrow.Author.Needs.{needs}
 use Rattle.block.proofs.Whole.{layout-bad, model-bad, rest-bad, entry-bad, all-taken}
 use Rattle.block.proofs.entries_taken.Statement.{statement}
-use borrow.Author.Needs.{needs}
-use native.Mathlib.Omega.{arith}
 use Rattle.block.proofs.entries_taken.Tie as tie
 
 get-field-requires : tie.Need-get-field-requires

@@ -2,14 +2,14 @@
 use mathlib.Core.List.{List}
 use mathlib.Core.Path.{_≡_, _∙_, ap}
 use Prim.Native.Nat.{ℕ}
+use native.Mathlib.Omega.{arith}
 use lib.ListN.{length, take, drop, length-replicate}
+use borrow.Author.Needs.{needs}
 use Rattle.block.proofs.Whole.{header-only, no-entries}
+use Rattle.block.proofs.fill_block.Statement.{statement}
 use Rattle.block.specs.Block.{saved, all-zero}
 use Rattle.block.specs.Saved.{nv}
 use Rattle.wire.specs.Splice.{splice}
-use Rattle.block.proofs.fill_block.Statement.{statement}
-use borrow.Author.Needs.{needs}
-use native.Mathlib.Omega.{arith}
 use Rattle.block.proofs.fill_block.Tie as tie
 
 put-field-requires : tie.Need-put-field-requires

@@ -1,10 +1,10 @@
 -- `held_number`: by the type one, two or four bytes, or 0 for a string. Assumes nothing.
 use mathlib.Core.Path.{_∙_}
+use native.Mathlib.Omega.{arith}
+use borrow.Author.Needs.{needs}
 use Rattle.block.proofs.Entries.{number-narrow, len-word, len-pair, len-byte, held-none, held-some}
 use Rattle.block.proofs.held_number.Statement.{statement}
 use Rattle.block.proofs.held_number.Tie as tie
-use borrow.Author.Needs.{needs}
-use native.Mathlib.Omega.{arith}
 
 returns : tie.Need-returns
 returns c = held-none _ _ _ (c .if1 .taken)

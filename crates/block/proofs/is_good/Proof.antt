@@ -1,12 +1,12 @@
 -- `is_good` lends the columns: a block is good where a load takes something. Assumes nothing.
 use mathlib.Core.Path.{refl}
-use Rattle.block.specs.Asked.{starts}
+use borrow.Author.Needs.{needs}
+use Rattle.block.proofs.Whole.{some-taken}
+use Rattle.block.proofs.is_good.Statement.{statement}
+use Rattle.block.specs.Asked.{starts, cut, lowest, highest}
 use Rattle.block.specs.Block.{width, nv-rows}
 use Rattle.table.specs.Rows.{rows}
 use Rattle.table.specs.Rule.{pick, rank, real-rank}
-use Rattle.block.proofs.Whole.{some-taken}
-use Rattle.block.proofs.is_good.Statement.{statement}
-use borrow.Author.Needs.{needs}
 use Rattle.block.proofs.is_good.Tie as tie
 
 slice-aggregate-entries-taken : tie.Need-slice-aggregate-entries-taken
@@ -28,10 +28,10 @@ slice-aggregate-entries-taken-6 : tie.Need-slice-aggregate-entries-taken-6
 slice-aggregate-entries-taken-6 c = search needs
 
 entries-taken-requires : tie.Need-entries-taken-requires
-unfolding rows nv-rows width starts rank real-rank pick
+unfolding rows nv-rows width starts cut rank real-rank pick lowest highest
 entries-taken-requires c κs =
     let b = c .before .before .before .before .before .before .before in
-    (record { kinds-are = refl; ats-are = refl; widths-are = refl }, record { lows-are = refl; highs-are = refl }, b .pre, refl)
+    (record { kinds-are = refl; ats-are = refl; cuts-are = refl }, record { lows-are = refl; highs-are = refl }, b .pre, refl)
 
 returns : tie.Need-returns
 returns c = some-taken (c .before .before .before .before .before .before .before .before .before .args .block .now) (c .before .entries-taken .ensures .0)

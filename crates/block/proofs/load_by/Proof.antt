@@ -1,7 +1,7 @@
 -- `load_by` meets its contract: as many entries are taken as a load takes. Assumes nothing.
+use borrow.Author.Needs.{needs}
 use Rattle.block.proofs.Whole.{taken-most, load-done}
 use Rattle.block.proofs.load_by.Statement.{statement}
-use borrow.Author.Needs.{needs}
 use Rattle.block.proofs.load_by.Tie as tie
 
 slice-aggregate-entries-taken : tie.Need-slice-aggregate-entries-taken
@@ -12,16 +12,16 @@ entries-taken-requires c κs = search needs
 
 take-entries-requires : tie.Need-take-entries-requires
 take-entries-requires c κs =
-    let b = c .before .before .before .before .before .before .before .before .before .before .before .before .before in
+    let b = c .before .before .before .before .before .before .before .before .before .before .before .before .before .before in
     let a = b .args in
-    (taken-most (a .block .now) (c .before .before .before .entries-taken .ensures .0), b .pre .0, b .pre .1, c .before .before .before .entries-taken .ensures .1, b .pre .4, b .pre .3)
+    (taken-most (a .block .now) (c .before .before .before .entries-taken .ensures .0), b .pre .0, b .pre .2, c .before .before .before .entries-taken .ensures .1, b .pre .5, b .pre .4)
 
 same-length : tie.Need-same-length
 same-length c = search needs
 
 returns : tie.Need-returns
 returns c =
-    let b = c .before .before .before .before .before .before .before .before .before .before .before .before .before .before .before .before in
+    let b = c .before .before .before .before .before .before .before .before .before .before .before .before .before .before .before .before .before in
     let a = b .args in
     load-done (a .block .now) (a .values .now) (c .before .before .before .before .before .before .entries-taken .ensures .0) (c .before .before .take-entries .ensures)
 

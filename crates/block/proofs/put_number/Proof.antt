@@ -1,14 +1,14 @@
 -- `put_number`: by the type one, two or four bytes. Assumes nothing.
 use mathlib.Core.Path.{_≡_, _∙_, sym, ap}
 use Prim.Native.Nat.{ℕ, _*_, _^_}
+use native.Mathlib.Omega.{arith}
+use borrow.Author.Needs.{needs}
 use Rattle.block.proofs.Entries.{len-word, len-pair, len-byte}
+use Rattle.block.proofs.put_number.Statement.{statement}
 use Rattle.block.specs.Asked.{number-len}
 use Rattle.wire.specs.Little.{little}
 use Rattle.wire.specs.Splice.{splice}
-use Rattle.block.proofs.put_number.Statement.{statement}
 use Rattle.block.proofs.put_number.Tie as tie
-use borrow.Author.Needs.{needs}
-use native.Mathlib.Omega.{arith}
 
 put-word-requires : tie.Need-put-word-requires
 put-word-requires c κs = let b = c .before .before .before in omega (arith, b .pre .0, len-word (b .args .kind) (omega arith))

@@ -1,9 +1,9 @@
 -- `rank_of` is `rank`. Assumes nothing.
+use native.Mathlib.Omega.{arith}
+use borrow.Author.Needs.{needs}
 use Rattle.block.proofs.Judged.{rank-other, rank-plus, rank-minus}
 use Rattle.block.proofs.rank_of.Statement.{statement}
 use Rattle.block.proofs.rank_of.Tie as tie
-use borrow.Author.Needs.{needs}
-use native.Mathlib.Omega.{arith}
 
 returns : tie.Need-returns
 returns c = rank-other _ _ (c .if1 .taken)

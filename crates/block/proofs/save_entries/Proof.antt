@@ -1,19 +1,19 @@
 -- `save_entries` meets its contract. Invariant: what stands before entry i is good and saved. Assumes nothing.
-use mathlib.Core.Path.{_≡_, _∙_, sym, refl}
+use mathlib.Core.Path.{_≡_, _∙_, sym, ap, refl}
 use Prim.Native.Nat.{_+_, _-_, _≤_}
-use lib.ListN.{length, take, drop}
+use native.Mathlib.Omega.{arith}
+use lib.ListN.{length, take, drop, getD}
 use borrow.Author.Tests.{not-true, not-false}
 use Rattle.bits.proofs.Numbers.{length-bits}
 use Rattle.bits.specs.Bits.{bits, Bytes}
 use Rattle.block.proofs.Entries.{number-inside}
 use Rattle.block.proofs.Turns.{fields-long, places-long, limits-long, place-at, here, room, sized-here, width-here, held-within, held-begin, held-on, held-stop, held-end, fits-here, zero-here, save-begin, save-turn}
-use Rattle.block.specs.Asked.{held-front}
+use Rattle.block.proofs.save_entries.Statement.{statement}
+use Rattle.block.specs.Asked.{between, held-front}
 use Rattle.block.specs.Block.{saved}
 use Rattle.block.specs.Saved.{nv}
 use Rattle.table.specs.Rows.{nv-count}
 use Rattle.wire.specs.Splice.{splice}
-use Rattle.block.proofs.save_entries.Statement.{statement}
-use native.Mathlib.Omega.{arith}
 use Rattle.block.proofs.save_entries.Tie as tie
 
 abbrev Inv-loop : tie.InvT-loop
@@ -55,52 +55,56 @@ held-number-requires c κs =
     let p = c .pair-to-usize .ensures .0 ∙ place-at (a .places .now) (b .pre .1) (l .i) h in
     λ k. omega (arith, number-inside _ _ (width-here g) (sized-here g p) k)
 
-mul-is-within : tie.Need-mul-is-within Inv-loop μ-loop
-mul-is-within c =
-    let b = c .before .before .before .before .before .before .before .before .before .before .before .before .before .before in
-    omega (arith, fields-long (b .pre .0), places-long _ (b .pre .1), limits-long _ _ (b .pre .2))
+rank-of-requires : tie.Need-rank-of-requires Inv-loop μ-loop
+rank-of-requires c κs = omega arith
 
-shared-slice-read-is-within : tie.Need-shared-slice-read-is-within Inv-loop μ-loop
-shared-slice-read-is-within c =
+mul-is-between : tie.Need-mul-is-between Inv-loop μ-loop
+mul-is-between c =
     let b = c .before .before .before .before .before .before .before .before .before .before .before .before .before .before .before in
     omega (arith, fields-long (b .pre .0), places-long _ (b .pre .1), limits-long _ _ (b .pre .2))
 
-mul-is-within-2 : tie.Need-mul-is-within-2 Inv-loop μ-loop
-mul-is-within-2 c =
-    let b = c .before .before .before .before .before .before .before .before .before .before .before .before .before .before .before in
-    omega (arith, fields-long (b .pre .0), places-long _ (b .pre .1), limits-long _ _ (b .pre .2))
-
-shared-slice-read-is-within-2 : tie.Need-shared-slice-read-is-within-2 Inv-loop μ-loop
-shared-slice-read-is-within-2 c =
+shared-slice-read-is-between : tie.Need-shared-slice-read-is-between Inv-loop μ-loop
+shared-slice-read-is-between c =
     let b = c .before .before .before .before .before .before .before .before .before .before .before .before .before .before .before .before in
     omega (arith, fields-long (b .pre .0), places-long _ (b .pre .1), limits-long _ _ (b .pre .2))
 
-is-within-requires : tie.Need-is-within-requires Inv-loop μ-loop
-is-within-requires c κs = omega arith
+mul-is-between-2 : tie.Need-mul-is-between-2 Inv-loop μ-loop
+mul-is-between-2 c =
+    let b = c .before .before .before .before .before .before .before .before .before .before .before .before .before .before .before .before in
+    omega (arith, fields-long (b .pre .0), places-long _ (b .pre .1), limits-long _ _ (b .pre .2))
+
+shared-slice-read-is-between-2 : tie.Need-shared-slice-read-is-between-2 Inv-loop μ-loop
+shared-slice-read-is-between-2 c =
+    let b = c .before .before .before .before .before .before .before .before .before .before .before .before .before .before .before .before .before in
+    omega (arith, fields-long (b .pre .0), places-long _ (b .pre .1), limits-long _ _ (b .pre .2))
+
+is-between-requires : tie.Need-is-between-requires Inv-loop μ-loop
+is-between-requires c κs = omega arith
 
 same-length : tie.Need-same-length Inv-loop μ-loop
 same-length c =
-    c .before .before .before .before .before .before .before .before .before .loop .inv .1 ∙ sym (c .before .before .before .before .before .before .before .before .before .before .before .before .before .before .before .before .before .before .pre .4)
+    c .before .before .before .before .before .before .before .before .before .before .loop .inv .1 ∙ sym (c .before .before .before .before .before .before .before .before .before .before .before .before .before .before .before .before .before .before .before .pre .4)
 
 returns : tie.Need-returns Inv-loop μ-loop
 returns c =
-    let b = c .before .before .before .before .before .before .before .before .before .before .before .before .before .before .before .before .before .before in
+    let b = c .before .before .before .before .before .before .before .before .before .before .before .before .before .before .before .before .before .before .before in
     let a = b .args in
-    let l = c .before .before .before .before .before .before .before .before .before .loop in
-    let h = c .before .before .before .before .before .before .before .before .loop-test .taken in
+    let l = c .before .before .before .before .before .before .before .before .before .before .loop in
+    let h = c .before .before .before .before .before .before .before .before .before .loop-test .taken in
     let g = here (b .pre .0) (l .i) h refl refl in
-    let p = c .before .before .before .before .before .pair-to-usize .ensures .0 ∙ place-at (a .places .now) (b .pre .1) (l .i) h in
-    let y : Bytes (a .values .now) = λ k. (c .before .before .before .before .before .before .before .before .before .before .before .shared-slice-known7 .given k) .fits in
-    (held-stop g (a .values .now) (held-within g (b .pre .2) (c .before .before .before .before .held-number .result) (c .before .is-within .ensures) (not-true (c .before .is-within .result) (c .if1 .taken)) (a .values .now) p y (c .before .before .before .before .held-number .ensures)) (l .inv .2), l .inv .3)
+    let p = c .before .before .before .before .before .before .pair-to-usize .ensures .0 ∙ place-at (a .places .now) (b .pre .1) (l .i) h in
+    let y : Bytes (a .values .now) = λ k. (c .before .before .before .before .before .before .before .before .before .before .before .before .shared-slice-known7 .given k) .fits in
+    let s = c .before .is-between .ensures ∙ ap (between (getD (a .lows .now) (l .i) 0) (getD (a .highs .now) (l .i) 0)) (c .before .before .before .before .rank-of .ensures) in
+    (held-stop g (a .values .now) (held-within g (b .pre .2) (c .before .before .before .before .before .held-number .result) s (not-true (c .before .is-between .result) (c .if1 .taken)) (a .values .now) p y (c .before .before .before .before .before .held-number .ensures)) (l .inv .2), l .inv .3)
 
 mul-pair-to-usize-2 : tie.Need-mul-pair-to-usize-2 Inv-loop μ-loop
 mul-pair-to-usize-2 c =
-    let b = c .before .before .before .before .before .before .before .before .before .before .before .before .before .before .before .before .before .before in
+    let b = c .before .before .before .before .before .before .before .before .before .before .before .before .before .before .before .before .before .before .before in
     omega (arith, fields-long (b .pre .0), places-long _ (b .pre .1), limits-long _ _ (b .pre .2))
 
 shared-slice-read-pair-to-usize-2 : tie.Need-shared-slice-read-pair-to-usize-2 Inv-loop μ-loop
 shared-slice-read-pair-to-usize-2 c =
-    let b = c .before .before .before .before .before .before .before .before .before .before .before .before .before .before .before .before .before .before .before in
+    let b = c .before .before .before .before .before .before .before .before .before .before .before .before .before .before .before .before .before .before .before .before in
     omega (arith, fields-long (b .pre .0), places-long _ (b .pre .1), limits-long _ _ (b .pre .2))
 
 pair-to-usize-requires-2 : tie.Need-pair-to-usize-requires-2 Inv-loop μ-loop
@@ -108,12 +112,12 @@ pair-to-usize-requires-2 c κs = omega arith
 
 mul-pair-to-usize-3 : tie.Need-mul-pair-to-usize-3 Inv-loop μ-loop
 mul-pair-to-usize-3 c =
-    let b = c .before .before .before .before .before .before .before .before .before .before .before .before .before .before .before .before .before .before .before .before in
+    let b = c .before .before .before .before .before .before .before .before .before .before .before .before .before .before .before .before .before .before .before .before .before in
     omega (arith, fields-long (b .pre .0), places-long _ (b .pre .1), limits-long _ _ (b .pre .2))
 
 shared-slice-read-pair-to-usize-3 : tie.Need-shared-slice-read-pair-to-usize-3 Inv-loop μ-loop
 shared-slice-read-pair-to-usize-3 c =
-    let b = c .before .before .before .before .before .before .before .before .before .before .before .before .before .before .before .before .before .before .before .before .before in
+    let b = c .before .before .before .before .before .before .before .before .before .before .before .before .before .before .before .before .before .before .before .before .before .before in
     omega (arith, fields-long (b .pre .0), places-long _ (b .pre .1), limits-long _ _ (b .pre .2))
 
 pair-to-usize-requires-3 : tie.Need-pair-to-usize-requires-3 Inv-loop μ-loop
@@ -121,21 +125,22 @@ pair-to-usize-requires-3 c κs = omega arith
 
 save-entry-requires : tie.Need-save-entry-requires Inv-loop μ-loop
 save-entry-requires c κs =
-    let b = c .before .before .before .before .before .before .before .before .before .before .before .before .before .before .before .before .before .before .before .before .before .before .before in
+    let b = c .before .before .before .before .before .before .before .before .before .before .before .before .before .before .before .before .before .before .before .before .before .before .before .before in
     let a = b .args in
-    let l = c .before .before .before .before .before .before .before .before .before .before .before .before .before .before .loop in
-    let h = c .before .before .before .before .before .before .before .before .before .before .before .before .before .loop-test .taken in
+    let l = c .before .before .before .before .before .before .before .before .before .before .before .before .before .before .before .loop in
+    let h = c .before .before .before .before .before .before .before .before .before .before .before .before .before .before .loop-test .taken in
     let g = here (b .pre .0) (l .i) h (c .before .before .before .pair-to-usize2 .ensures .0) (c .before .pair-to-usize3 .ensures .0) in
-    let p = c .before .before .before .before .before .before .before .before .before .before .pair-to-usize .ensures .0 ∙ place-at (a .places .now) (b .pre .1) (l .i) h in
-    let y : Bytes (a .values .now) = λ k. (c .before .before .before .before .before .before .before .before .before .before .before .before .before .before .before .before .shared-slice-known7 .given k) .fits in
+    let p = c .before .before .before .before .before .before .before .before .before .before .before .pair-to-usize .ensures .0 ∙ place-at (a .places .now) (b .pre .1) (l .i) h in
+    let y : Bytes (a .values .now) = λ k. (c .before .before .before .before .before .before .before .before .before .before .before .before .before .before .before .before .before .shared-slice-known7 .given k) .fits in
+    let s = c .before .before .before .before .before .before .is-between .ensures ∙ ap (between (getD (a .lows .now) (l .i) 0) (getD (a .highs .now) (l .i) 0)) (c .before .before .before .before .before .before .before .before .before .rank-of .ensures) in
     let n : length (bits (a .block .now)) ≡ 4096 = omega (arith, length-bits (a .block .now)) in (
       sized-here g p,
       width-here g,
       b .pre .3,
       l .inv .1,
       omega (arith, room g),
-      c .before .before .before .before .before .before .before .before .before .held-number .ensures,
-      fits-here g p (a .values .now) (b .pre .3) y (held-within g (b .pre .2) (c .before .before .before .before .before .before .before .before .before .held-number .result) (c .before .before .before .before .before .before .is-within .ensures) (not-false (c .before .before .before .before .before .before .is-within .result) (c .before .before .before .before .before .if1 .left)) (a .values .now) p y (c .before .before .before .before .before .before .before .before .before .held-number .ensures)) (c .before .before .before .before .before .before .before .before .before .held-number .ensures),
+      c .before .before .before .before .before .before .before .before .before .before .held-number .ensures,
+      fits-here g p (a .values .now) (b .pre .3) y (held-within g (b .pre .2) (c .before .before .before .before .before .before .before .before .before .before .held-number .result) s (not-false (c .before .before .before .before .before .before .is-between .result) (c .before .before .before .before .before .if1 .left)) (a .values .now) p y (c .before .before .before .before .before .before .before .before .before .before .held-number .ensures)) (c .before .before .before .before .before .before .before .before .before .before .held-number .ensures),
       zero-here g p (a .values .now) (b .pre .3) (bits (a .block .now)) n (b .pre .5) (l .inv .3),
     )
 
@@ -147,17 +152,18 @@ loop-less c = omega arith
 
 loop-again : tie.Need-loop-again Inv-loop μ-loop
 loop-again c =
-    let b = c .before .before .before .before .before .before .before .before .before .before .before .before .before .before .before .before .before .before .before .before .before .before .before .before .before .before in
+    let b = c .before .before .before .before .before .before .before .before .before .before .before .before .before .before .before .before .before .before .before .before .before .before .before .before .before .before .before in
     let a = b .args in
-    let l = c .before .before .before .before .before .before .before .before .before .before .before .before .before .before .before .before .before .loop in
-    let h = c .before .before .before .before .before .before .before .before .before .before .before .before .before .before .before .before .loop-test .taken in
+    let l = c .before .before .before .before .before .before .before .before .before .before .before .before .before .before .before .before .before .before .loop in
+    let h = c .before .before .before .before .before .before .before .before .before .before .before .before .before .before .before .before .before .loop-test .taken in
     let g = here (b .pre .0) (l .i) h (c .before .before .before .before .before .before .pair-to-usize2 .ensures .0) (c .before .before .before .before .pair-to-usize3 .ensures .0) in
-    let p = c .before .before .before .before .before .before .before .before .before .before .before .before .before .pair-to-usize .ensures .0 ∙ place-at (a .places .now) (b .pre .1) (l .i) h in
-    let y : Bytes (a .values .now) = λ k. (c .before .before .before .before .before .before .before .before .before .before .before .before .before .before .before .before .before .before .before .shared-slice-known7 .given k) .fits in
+    let p = c .before .before .before .before .before .before .before .before .before .before .before .before .before .before .pair-to-usize .ensures .0 ∙ place-at (a .places .now) (b .pre .1) (l .i) h in
+    let y : Bytes (a .values .now) = λ k. (c .before .before .before .before .before .before .before .before .before .before .before .before .before .before .before .before .before .before .before .before .shared-slice-known7 .given k) .fits in
+    let s = c .before .before .before .before .before .before .before .before .before .is-between .ensures ∙ ap (between (getD (a .lows .now) (l .i) 0) (getD (a .highs .now) (l .i) 0)) (c .before .before .before .before .before .before .before .before .before .before .before .before .rank-of .ensures) in
     let n : length (bits (a .block .now)) ≡ 4096 = omega (arith, length-bits (a .block .now)) in (
       omega arith,
       c .before .before .save-entry .kept .1 .1 .1 .1 .0 ∙ l .inv .1,
-      held-on g (a .values .now) (held-within g (b .pre .2) (c .before .before .before .before .before .before .before .before .before .before .before .before .held-number .result) (c .before .before .before .before .before .before .before .before .before .is-within .ensures) (not-false (c .before .before .before .before .before .before .before .before .before .is-within .result) (c .before .before .before .before .before .before .before .before .if1 .left)) (a .values .now) p y (c .before .before .before .before .before .before .before .before .before .before .before .before .held-number .ensures)) (l .inv .2),
+      held-on g (a .values .now) (held-within g (b .pre .2) (c .before .before .before .before .before .before .before .before .before .before .before .before .before .held-number .result) s (not-false (c .before .before .before .before .before .before .before .before .before .is-between .result) (c .before .before .before .before .before .before .before .before .if1 .left)) (a .values .now) p y (c .before .before .before .before .before .before .before .before .before .before .before .before .before .held-number .ensures)) (l .inv .2),
       save-turn g p (a .values .now) (b .pre .3) (bits (a .block .now)) n (l .inv .3) (c .before .before .save-entry .ensures),
     )
 
@@ -184,11 +190,12 @@ save-entries-spec =
     shared-slice-read-pair-to-usize
     pair-to-usize-requires
     held-number-requires
-    mul-is-within
-    shared-slice-read-is-within
-    mul-is-within-2
-    shared-slice-read-is-within-2
-    is-within-requires
+    rank-of-requires
+    mul-is-between
+    shared-slice-read-is-between
+    mul-is-between-2
+    shared-slice-read-is-between-2
+    is-between-requires
     same-length
     returns
     mul-pair-to-usize-2

@@ -1,14 +1,14 @@
 -- `save_entry` meets its contract: bytes, or a field. Assumes nothing.
 use mathlib.Core.Path.{_∙_, ap}
 use Prim.Native.Nat.{_-_, _%_}
+use native.Mathlib.Omega.{arith}
+use borrow.Author.Needs.{needs}
 use Rattle.bits.specs.Bits.{bits}
 use Rattle.block.proofs.Entries.{len-string, entry-some, entry-narrow, saved-string, saved-as-field}
 use Rattle.block.proofs.Zeros.{zero-said}
-use Rattle.wire.specs.Splice.{splice}
 use Rattle.block.proofs.save_entry.Statement.{statement}
+use Rattle.wire.specs.Splice.{splice}
 use Rattle.block.proofs.save_entry.Tie as tie
-use borrow.Author.Needs.{needs}
-use native.Mathlib.Omega.{arith}
 
 put-bytes-requires : tie.Need-put-bytes-requires
 put-bytes-requires c κs =

@@ -1,11 +1,11 @@
 -- `store` lends the columns: they are computed to be the NV rows'. Assumes nothing.
 use mathlib.Core.Path.{refl}
-use Rattle.block.specs.Asked.{starts}
+use borrow.Author.Needs.{needs}
+use Rattle.block.proofs.store.Statement.{statement}
+use Rattle.block.specs.Asked.{starts, lowest, highest}
 use Rattle.block.specs.Block.{width, nv-rows}
 use Rattle.table.specs.Rows.{rows}
 use Rattle.table.specs.Rule.{pick, rank, real-rank}
-use Rattle.block.proofs.store.Statement.{statement}
-use borrow.Author.Needs.{needs}
 use Rattle.block.proofs.store.Tie as tie
 
 slice-aggregate-store-by : tie.Need-slice-aggregate-store-by
@@ -27,7 +27,7 @@ slice-aggregate-store-by-6 : tie.Need-slice-aggregate-store-by-6
 slice-aggregate-store-by-6 c = search needs
 
 store-by-requires : tie.Need-store-by-requires
-unfolding rows nv-rows width starts rank real-rank pick
+unfolding rows nv-rows width starts rank real-rank pick lowest highest
 store-by-requires c κs =
     let b = c .before .before .before .before .before .before .before .before .before in
     (record { kinds-are = refl; ats-are = refl; widths-are = refl }, refl, record { lows-are = refl; highs-are = refl }, b .pre .0, b .pre .1)

@@ -1,9 +1,9 @@
 -- `store_by` meets its contract: the block is written when all entries went into a fresh one. Assumes nothing.
 use mathlib.Core.Path.{_∙_}
+use native.Mathlib.Omega.{arith}
+use borrow.Author.Needs.{needs}
 use Rattle.block.proofs.Whole.{store-refused, store-done}
 use Rattle.block.proofs.store_by.Statement.{statement}
-use borrow.Author.Needs.{needs}
-use native.Mathlib.Omega.{arith}
 use Rattle.block.proofs.store_by.Tie as tie
 
 slice-aggregate-fill-block : tie.Need-slice-aggregate-fill-block

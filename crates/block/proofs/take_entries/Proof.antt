@@ -1,13 +1,13 @@
 -- `take_entries` meets its contract. Invariant: the first i entries are taken. Assumes nothing.
 use mathlib.Core.Path.{_≡_, _∙_, sym, ap, refl}
 use Prim.Native.Nat.{ℕ, _-_, _≤_}
+use native.Mathlib.Omega.{arith}
 use lib.ListN.{length, take}
 use Rattle.bits.specs.Bits.{bits}
 use Rattle.block.proofs.Turns.{fields-long, places-long, place-at, here, room, sized-here, width-here, number-known, take-turn}
+use Rattle.block.proofs.take_entries.Statement.{statement}
 use Rattle.block.specs.Block.{load-rows}
 use Rattle.block.specs.Saved.{nv}
-use Rattle.block.proofs.take_entries.Statement.{statement}
-use native.Mathlib.Omega.{arith}
 use Rattle.block.proofs.take_entries.Tie as tie
 
 abbrev Inv-loop : tie.InvT-loop

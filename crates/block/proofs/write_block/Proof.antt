@@ -1,11 +1,11 @@
 -- `write_block` meets its contract. Assumes nothing.
 use mathlib.Core.Path.{_∙_, ap}
+use native.Mathlib.Omega.{arith}
 use lib.Seq.{take-all}
+use borrow.Author.Needs.{needs}
+use Rattle.block.proofs.write_block.Statement.{statement}
 use Rattle.wire.proofs.SpliceLaws.{splice-whole}
 use Rattle.wire.specs.Splice.{splice}
-use Rattle.block.proofs.write_block.Statement.{statement}
-use borrow.Author.Needs.{needs}
-use native.Mathlib.Omega.{arith}
 use Rattle.block.proofs.write_block.Tie as tie
 
 copy-at-requires : tie.Need-copy-at-requires
