@@ -14,20 +14,19 @@ use Rattle.wire.proofs.SpliceLaws.{part-length}
 use Rattle.trip.specs.declared.Trips.{Trips}
 use Rattle.sample.specs.Sample.{values-after, trips-after}
 use Rattle.sample.specs.Image.{image-of}
-use Rattle.gauge.specs.Memory.{memory-of, all-off}
+use Rattle.gauge.specs.Memory.{Store, memory-of, all-off}
 use Rattle.gauge.specs.PowerUp.{fresh-values}
 use Rattle.sdo.specs.declared.Transfer.{Transfer}
-use Rattle.sdo.specs.declared.Reply.{Reply}
 use Rattle.sdo.specs.declared.Message.{Message}
 use Rattle.sdo.specs.declared.Message.the-variants.{SendPart, WriteSized, WriteOwn, OpenAnnounced, OpenUnsaid, OpenRead, NextPart, GiveUp, Unknown}
 use Rattle.sdo.specs.Eight.{messageOf}
+use Rattle.sdo.specs.Replies.{Reply}
 use Rattle.sdo.specs.Records.{Spoken, allZero, speak}
 use Rattle.sdo.proofs.RecordLaws.{Whole}
 use Rattle.board.specs.State.{record-place, record-at, record-bytes, trips-place, trips-at, trips-bytes}
 use Rattle.board.specs.Gauge.{Sample, sampled, bag552}
-use Rattle.board.specs.Answering.{is-abort, reply-to, Acted, left, act-by, spoken-by}
+use Rattle.board.specs.Answering.{is-abort, reply-to, Acted, act-by, spoken-by, Told, told, told-by, answered}
 use Rattle.board.specs.Calls.{Lent, store-of, sized, called, number-by, dropped, settled, served, message-call, powered, power-up-call, fed, fed-by, sample-call, shown, image-call}
-use Rattle.board.specs.declared.line.Told.{Told}
 use Rattle.board.proofs.Spoken.{speak-is, given-up}
 
 -- ---- lengths
@@ -101,33 +100,38 @@ whole-record : (s : List ℕ) (at : ℕ) → length s ≡ 256 → at + 70 ≤ 25
 unfolding record-at
 whole-record s at e h = part-length s at 64 (omega arith)
 
-answered : (eight : List ℕ) → length eight ≡ 8 → number-by eight ≡ 0
+is-answer : (eight : List ℕ) → length eight ≡ 8 → number-by eight ≡ 0
 unfolding number-by
-answered [] e = absurd (omega arith)
-answered (x ∷ xs) e = refl
+is-answer [] e = absurd (omega arith)
+is-answer (x ∷ xs) e = refl
 
 module _ (line : ℕ) (m v b s a : List ℕ) (on-line : line ≤ 1) (lent : Lent m v b s a) where
   whole : Whole (record-at s (record-place line))
   whole = whole-record s (record-place line) (lent .state-long) (place-most line on-line)
 
-  pub abort-served : {at : ℕ} {said : Message} {z : Transfer} {s′ : List ℕ} → at ≡ record-place line → said ≡ messageOf m → is-abort said ≡ true → z ≡ allZero
-      → s′ ≡ splice s at (record-bytes z) → called 5 v b s′ a ≡ served line (speak bag552 (store-of v b s) (record-at s (record-place line)) m) s a
+  pub abort-served : {at : ℕ} {said : Message} {s′ : List ℕ} → at ≡ record-place line → said ≡ messageOf m → is-abort said ≡ true
+      → s′ ≡ splice s at (record-bytes allZero) → called 5 v b s′ a ≡ served line (speak bag552 (store-of v b s) (record-at s (record-place line)) m) s a
   unfolding served settled number-by splice
-  abort-served {said = said} ea em ei ez es =
-      rw (given-up (store-of v b s) (record-at s (record-place line)) m whole (lent .values-long) (sym em ∙ abort-is said ei), es, ez, ea)
+  abort-served {said = said} ea em ei es =
+      rw (given-up (store-of v b s) (record-at s (record-place line)) m whole (lent .values-long) (sym em ∙ abort-is said ei), es, ea)
 
-  pub answer-served : {at : ℕ} {said : Message} {t : Transfer} {r : Reply} {told : Told} {v′ b′ s′ a′ : List ℕ} → at ≡ record-place line → said ≡ messageOf m
-      → is-abort said ≡ false → t ≡ record-at s at → r ≡ reply-to said m v t → left told v′ b′ ≡ act-by (memory-of v b) r (r .act) → length (told .eight) ≡ 8
-      → s′ ≡ settled at (told .next) (told .reset) s → a′ ≡ splice a 0 (take 8 (drop 0 (told .eight)))
+  -- what the line leaves is what `speak` says, with the answer in its room
+  told-served : (x : Acted) {v′ b′ s′ e a′ : List ℕ} → told v′ b′ s′ e ≡ told-by (record-place line) s x → length e ≡ 8 → a′ ≡ splice a 0 (take 8 (drop 0 e))
+      → called 0 v′ b′ s′ a′ ≡ served line (spoken-by (store-of v b s) x) s a
+  unfolding served spoken-by told-by
+  told-served x {v′} {b′} {s′} {e} q n i =
+      let eight : e ≡ x .eight = ap (λ (t : Told). t .eight) q in
+      let long : length (x .eight) ≡ 8 = sym (ap length eight) ∙ n in
+      rw (i, ap (λ (t : Told). t .values) q, ap (λ (t : Told). t .block) q, ap (λ (t : Told). t .state) q, take-all 8 e (omega arith), eight, is-answer (x .eight) long)
+
+  pub answer-served : {at : ℕ} {said : Message} {v′ b′ s′ e a′ : List ℕ} → at ≡ record-place line → said ≡ messageOf m → is-abort said ≡ false
+      → told v′ b′ s′ e ≡ answered at v b s (reply-to said m v (record-at s at)) → length e ≡ 8 → a′ ≡ splice a 0 (take 8 (drop 0 e))
       → called 0 v′ b′ s′ a′ ≡ served line (speak bag552 (store-of v b s) (record-at s (record-place line)) m) s a
-  unfolding served spoken-by
-  answer-served {at} {said} {t} {r} {told} {v′} {b′} {s′} {a′} ea em ei et er el en es eq =
+  answer-served {at} {said} ea em ei et n i =
       let reply : Reply = reply-to said m v (record-at s (record-place line)) in
-      let rep : r ≡ reply = er ∙ ap (reply-to said m v) (et ∙ ap (record-at s) ea) in
-      let acted : left told v′ b′ ≡ act-by (memory-of v b) reply (reply .act) = el ∙ ap (λ (q : Reply). act-by (memory-of v b) q (q .act)) rep in
-      let said-is : speak bag552 (store-of v b s) (record-at s (record-place line)) m ≡ spoken-by (store-of v b s) (left told v′ b′)
-      = speak-is (store-of v b s) (record-at s (record-place line)) m whole (lent .values-long) said (sym em) (no-abort said ei) ∙ ap (spoken-by (store-of v b s)) (sym acted) in
-      rw (said-is, es, eq, ea, answered (told .eight) en, take-all 8 (told .eight) (omega arith))
+      let here : told _ _ _ _ ≡ answered (record-place line) v b s reply = et ∙ ap (λ (p : ℕ). answered p v b s (reply-to said m v (record-at s p))) ea in
+      told-served (act-by (memory-of v b) reply (reply .act)) here n i
+      ∙ ap (λ (x : Spoken Store). served line x s a) (sym (speak-is (store-of v b s) (record-at s (record-place line)) m whole (lent .values-long) said (sym em) (no-abort said ei)))
 
 -- ---- gauge_power_up
 

@@ -12,15 +12,16 @@ use Rattle.table.specs.Rows.{at-row, row-count}
 use Rattle.table.specs.Find.{find-row}
 use Rattle.table.specs.declared.Found.{Found}
 use Rattle.table.specs.declared.Found.the-variants.{At, NoIndex, NoSub}
-use Rattle.table.proofs.Table.{find-at, row-rule}
+use Rattle.table.proofs.Table.{find-at}
 use Rattle.gauge.specs.Gates.{gate, read-gate, write-gate}
 use Rattle.gauge.specs.Whole.{value-of}
 use Rattle.gauge.specs.declared.gate.Gate.{Gate}
 use Rattle.gauge.specs.declared.gate.Gate.the-variants.{Open, Shut}
 use Rattle.sdo.specs.declared.Key.{Key}
-use Rattle.sdo.specs.declared.Reply.{Reply}
 use Rattle.sdo.specs.Eight.{answerOf}
-use Rattle.sdo.specs.Replies.{ending, filled, openReadReply}
+use Rattle.sdo.specs.Records.{keyAt}
+use Rattle.sdo.specs.Replies.{Reply, ending, filled, openReadReply}
+use Rattle.sdo.proofs.RecordLaws.{found-key}
 use Rattle.board.specs.Answering.{through, open-read}
 
 -- an open gate's row was found, and its access is not the barred one
@@ -45,20 +46,20 @@ module _ (barred code index sub row : ℕ) {g : Gate} (gated : g ≡ gate barred
   pub open-there : row < row-count
   open-there = find-at index sub row (opened-by .found) .there
 
-  pub open-short : at-row row .len ≤ 64
-  open-short = row-rule row open-there .most
+-- the key of a row that it opens
+pub open-key : (barred code row : ℕ) (k : Key) {g : Gate} → g ≡ gate barred code (find-row (k .index) (k .sub)) → g ≡ Open row → k ≡ keyAt row
+open-key barred code row k e o = found-key k row (opened-by barred code (k .index) (k .sub) row e o .found)
 
 -- ---- the replies
 
-pub shut-reply : {g : Gate} (barred code index sub : ℕ) (c : ℕ) (k : Key) (f : ℕ → Reply) {x : Reply} → g ≡ gate barred code (find-row index sub) → g ≡ Shut c
-    → x ≡ ending (answerOf (refused k c)) → x ≡ through (gate barred code (find-row index sub)) k f
-unfolding through
-shut-reply barred code index sub c k f e q r = rw (sym e ∙ q) r
+module _ (barred code : ℕ) (k : Key) (f : ℕ → Reply) {g : Gate} (gated : g ≡ gate barred code (find-row (k .index) (k .sub))) where
+  pub shut-reply : (c : ℕ) → g ≡ Shut c → ending (answerOf (refused k c)) ≡ through (gate barred code (find-row (k .index) (k .sub))) k f
+  unfolding through
+  shut-reply c q = rw (sym gated ∙ q)
 
-pub open-reply : {g : Gate} (barred code index sub : ℕ) (row : ℕ) (k : Key) (f : ℕ → Reply) {x : Reply} → g ≡ gate barred code (find-row index sub) → g ≡ Open row
-    → x ≡ f row → x ≡ through (gate barred code (find-row index sub)) k f
-unfolding through
-open-reply barred code index sub row k f e q r = rw (sym e ∙ q) r
+  pub open-reply : (row : ℕ) → g ≡ Open row → f row ≡ through (gate barred code (find-row (k .index) (k .sub))) k f
+  unfolding through
+  open-reply row q = rw (sym gated ∙ q)
 
 pub read-reply : (values : List ℕ) (row : ℕ) {held : List ℕ} {len : ℕ} {x : Reply} → held ≡ filled (value-of (at-row row) values) → len ≡ at-row row .len
     → x ≡ openReadReply row held len → x ≡ open-read values row

@@ -27,20 +27,17 @@ use Rattle.sdo.specs.declared.Key.{Key}
 use Rattle.sdo.specs.declared.Direction.{Direction}
 use Rattle.sdo.specs.declared.Direction.the-variants.{Neither, Reads, Writes}
 use Rattle.sdo.specs.declared.Transfer.{Transfer}
-use Rattle.sdo.specs.declared.Act.{Act}
-use Rattle.sdo.specs.declared.Act.the-variants.{Done, Commit}
-use Rattle.sdo.specs.declared.Reply.{Reply}
 use Rattle.sdo.specs.declared.Message.{Message}
 use Rattle.sdo.specs.declared.Message.the-variants.{SendPart, WriteSized, WriteOwn, OpenAnnounced, OpenUnsaid, OpenRead, NextPart, GiveUp, Unknown}
 use Rattle.sdo.specs.Eight.{messageOf, asked, askOf, answerOf}
 use Rattle.sdo.specs.Records.{Spoken, allZero, keyAt, allows, counts, speak}
-use Rattle.sdo.specs.Replies.{ending, committing, is-reading, is-writing, givenReply, nextPartReply, takenReply, sendPartReply, openReadReply, openWriteBy, openWriteReply, expeditedBy, expeditedReply, filled, concluded, actedBy}
+use Rattle.sdo.specs.Replies.{Act, Done, Commit, Reply, ending, committing, is-reading, is-writing, givenReply, nextPartReply, takenReply, sendPartReply, openReadReply, openWriteBy, openWriteReply, expeditedBy, expeditedReply, filled, concluded, actedBy}
 use Rattle.sdo.specs.Lines.{short}
 use Rattle.sdo.proofs.RecordLaws.{Whole, counts-fits}
 use Rattle.sdo.proofs.ReplyLaws.{ask-is}
 use Rattle.sdo.proofs.SpeakLaws.{speak-next-part, speak-send-part, speak-give-up, speak-unknown, speak-read-denied, speak-write-closed, speak-expedited-closed, speak-open-read, speak-open-write, speak-expedited}
 use Rattle.board.specs.Gauge.{bag552}
-use Rattle.board.specs.Answering.{through, open-read, open-write, reply-to, Acted, Doable, act-by, spoken-by}
+use Rattle.board.specs.Answering.{through, open-read, open-write, reply-to, Acted, act-by, spoken-by}
 use Rattle.board.specs.Answering as line
 use Rattle.board.proofs.Doors.{Opened, opened}
 
@@ -49,10 +46,6 @@ use Rattle.board.proofs.Doors.{Opened, opened}
 abbrev pub Writable : Act → Type 0
 Writable Done = Unit {0}
 Writable (Commit row len) = (row < row-count) × (at-row row .access ≡ RO → ⊥) × (len ≡ at-row row .len)
-
-pub writable-doable : (a : Act) → Writable a → Doable a
-writable-doable Done w = tt
-writable-doable (Commit row len) w = (w .0, w .2)
 
 by-pick : (b : Bool) (x y : Reply) → (b ≡ true → Writable (x .act)) → (b ≡ false → Writable (y .act)) → Writable ((pick b x y) .act)
 unfolding pick
@@ -256,7 +249,3 @@ module _ (g : Store) where
     pub given-up : messageOf m ≡ GiveUp → speak bag552 g t m ≡ record { store = g; next = allZero; reset = false; bytes = [] }
     unfolding asked
     given-up e = speak-give-up bag552 g t m (ask-is m GiveUp e)
-
-pub reply-doable : (said : Message) (m values : List ℕ) (t : Transfer) (r : Reply) → r ≡ reply-to said m values t → Doable (r .act)
-reply-doable said m values t r e =
-    subst (λ (q : Reply). Doable (q .act)) (sym e) (writable-doable ((reply-to said m values t) .act) (reply-writable said m values t))

@@ -14,6 +14,7 @@ use Rattle.trip.specs.declared.On.{On}
 use Rattle.trip.specs.declared.Trips.{Trips}
 use Rattle.sdo.specs.declared.Direction.{Direction}
 use Rattle.sdo.specs.declared.Transfer.{Transfer}
+use Rattle.sdo.specs.Records.{allZero}
 use Rattle.board.specs.State.{direction-of, direction-byte, bit, is-on, record-at, record-tail, record-bytes, trips-place, trips-at, trips-bytes}
 use Rattle.board.proofs.InARow.{then, four-in-a-row}
 
@@ -48,6 +49,11 @@ module _ (l : List ℕ) (at : ℕ) (t : Transfer) (room : at + 70 ≤ length l) 
       let tail : List ℕ = record-tail t in
       let long : length tail ≡ 6 = simp (length-append, length-little) in
       rw (e₂, e₁, take-all 64 (t .held) (omega arith)) (then l at (at + 64) (t .held) tail (omega arith) (omega arith))
+
+-- an ended transfer's record
+pub record-cleared : (l : List ℕ) (at : ℕ) {l′ : List ℕ} → l′ ≡ splice l at (take 70 (drop 0 (replicate 70 0))) → l′ ≡ splice l at (record-bytes allZero)
+unfolding record-bytes record-tail direction-byte little
+record-cleared l at e = e
 
 pub trips-put : (l : List ℕ) (t : Trips) {l₁ l₂ l₃ l₄ : List ℕ} {a b c d : ℕ} → length l ≡ 256
     → a ≡ bit (t .one .high) → l₁ ≡ splice l trips-place (little 1 a) → b ≡ bit (t .one .low) → l₂ ≡ splice l₁ (trips-place + 1) (little 1 b)

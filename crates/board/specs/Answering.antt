@@ -4,10 +4,11 @@ use mathlib.Core.List.{List, []}
 use mathlib.Core.Option.{none, some}
 use mathlib.Core.Bool.{Bool, true, false, cond}
 use mathlib.Core.Path.{_≡_}
-use Prim.Native.Nat.{ℕ, _<_}
+use Prim.Native.Nat.{ℕ, _+_, _≤_}
 use lib.ListN.{length, take, drop}
+use Rattle.wire.specs.Splice.{splice}
 use Rattle.order.specs.Talk.{announced, unsaid, own, refused, noTransfer, Outcome, stored, restarted, declined}
-use Rattle.table.specs.Rows.{at-row, row-count}
+use Rattle.table.specs.Rows.{at-row}
 use Rattle.table.specs.Find.{find-row}
 use Rattle.gauge.specs.Gates.{read-gate, write-gate}
 use Rattle.gauge.specs.Memory.{Memory, Store, memory-of, all-off}
@@ -16,15 +17,13 @@ use Rattle.gauge.specs.declared.gate.Gate.{Gate}
 use Rattle.gauge.specs.declared.gate.Gate.the-variants.{Open, Shut}
 use Rattle.sdo.specs.declared.Key.{Key}
 use Rattle.sdo.specs.declared.Transfer.{Transfer}
-use Rattle.sdo.specs.declared.Act.{Act}
-use Rattle.sdo.specs.declared.Act.the-variants.{Done, Commit}
-use Rattle.sdo.specs.declared.Reply.{Reply}
 use Rattle.sdo.specs.declared.Message.{Message}
 use Rattle.sdo.specs.declared.Message.the-variants.{SendPart, WriteSized, WriteOwn, OpenAnnounced, OpenUnsaid, OpenRead, NextPart, GiveUp, Unknown}
-use Rattle.board.specs.declared.line.Told.{Told}
 use Rattle.sdo.specs.Eight.{answerOf}
 use Rattle.sdo.specs.Records.{allZero, keyAt, Spoken}
-use Rattle.sdo.specs.Replies.{ending, nextPartReply, sendPartReply, filled, openReadReply, openWriteReply, expeditedReply}
+use Rattle.sdo.specs.Replies.{Act, Done, Commit, Reply, ending, nextPartReply, sendPartReply, filled, openReadReply, openWriteReply, expeditedReply}
+use Rattle.board.specs.State.{record-bytes}
+use Rattle.board.specs.Calls.{settled}
 
 -- a gate that is shut answers with its code
 unfoldable pub through : Gate → Key → (ℕ → Reply) → Reply
@@ -73,14 +72,6 @@ pub record Acted : Type 0 where
 abbrev pub acted : Memory → Transfer → Bool → List ℕ → Acted
 acted m next reset eight = record { values = m .values; block = m .block; next = next; reset = reset; eight = eight }
 
-abbrev pub left : Told → List ℕ → List ℕ → Acted
-left t values block = record { values = values; block = block; next = t .next; reset = t .reset; eight = t .eight }
-
--- only a whole value of a row is committed
-abbrev pub Doable : Act → Type 0
-Doable Done = Unit {0}
-Doable (Commit row len) = (row < row-count) × (len ≡ at-row row .len)
-
 unfoldable pub concluded : Memory → ℕ → List ℕ → Outcome Memory → Acted
 concluded m row eight (stored n) = acted n allZero false eight
 concluded m row eight (restarted n) = acted n allZero true eight
@@ -89,6 +80,42 @@ concluded m row eight (declined code) = acted m allZero false (answerOf (refused
 unfoldable pub act-by : Memory → Reply → Act → Acted
 act-by m r Done = acted m (r .next) false (r .eight)
 act-by m r (Commit row len) = concluded m row (r .eight) (commit-row (at-row row) (take len (r .next .held)) m)
+
+-- ---- what the functions of a line leave
+
+-- where the memory stays: the state bytes, with the line's next record at its place, and the answer
+pub record Kept : Type 0 where
+  pub state : List ℕ
+  pub eight : List ℕ
+
+abbrev pub kept : List ℕ → List ℕ → Kept
+kept state eight = record { state = state; eight = eight }
+
+unfoldable pub replied : ℕ → List ℕ → Reply → Kept
+replied at state r = kept (splice state at (record-bytes (r .next))) (r .eight)
+
+-- with the memory
+pub record Told : Type 0 where
+  pub values : List ℕ
+  pub block : List ℕ
+  pub state : List ℕ
+  pub eight : List ℕ
+
+abbrev pub told : List ℕ → List ℕ → List ℕ → List ℕ → Told
+told values block state eight = record { values = values; block = block; state = state; eight = eight }
+
+unfoldable pub told-by : ℕ → List ℕ → Acted → Told
+told-by at state a = told (a .values) (a .block) (settled at (a .next) (a .reset) state) (a .eight)
+
+abbrev pub answered : ℕ → List ℕ → List ℕ → List ℕ → Reply → Told
+answered at values block state r = told-by at state (act-by (memory-of values block) r (r .act))
+
+-- what they are lent: the memory, the state and a record's place in it
+pub record Ready (at : ℕ) (values block state : List ℕ) : Type 0 where
+  pub values-long : length values ≡ 1024
+  pub block-long : length block ≡ 512
+  pub state-long : length state ≡ 256
+  pub inside : at + 70 ≤ 256
 
 -- the same as `speak` says it, with the trip states: "trips off" after a device reset
 unfoldable pub spoken-by : Store → Acted → Spoken Store

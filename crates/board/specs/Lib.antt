@@ -1,4 +1,4 @@
 pub mod State
 pub mod Gauge
-pub mod Answering
 pub mod Calls
+pub mod Answering

@@ -1,45 +1,18 @@
 // THE BOARD: the calls for C firmware, on lent bytes. No call has a condition: bad input is refused by number.
 pub mod line;
+pub mod read;
+pub mod reply;
 pub mod state;
+pub mod write;
 
-use sdo::Transfer;
 use sdo::decode;
-use sdo::record;
-use trip::On;
-use trip::Trips;
 ghost use mathlib.Core.Path.{_≡_};
 ghost use Prim.Native.Nat.{_+_, _≤_};
 ghost use lib.ListN.{length};
 ghost use Rattle.sdo.specs.Records.{speak};
 ghost use Rattle.board.specs.State.{record-place, record-at};
 ghost use Rattle.board.specs.Gauge.{bag552};
-ghost use Rattle.board.specs.Calls.{Lent, store-of, dropped, settled, called, served, message-call, powered, power-up-call, fed, sample-call, shown, image-call};
-
-// Both records all zero and the trips off.
-fn drop_all(state: &mut [u8])
-    requires { ⌜ length (now state) ≡ 256 ⌝ }
-    ensures { λ _. ⌜ now (state .exit) ≡ dropped (now (state .entry)) ⌝ }
-{
-    let off = On {
-        high: false,
-        low: false,
-    };
-    state::put_record(state, 0, record::all_zero());
-    state::put_record(state, 96, record::all_zero());
-    state::put_trips(state, Trips { one: off, two: off });
-}
-
-// The line's next record; after a device reset no line has one.
-fn settle(state: &mut [u8], at: usize, next: Transfer, reset: bool)
-    requires { ⌜ (length (now state) ≡ 256) × (at + 70 ≤ 256) ⌝ }
-    ensures { λ _. ⌜ now (state .exit) ≡ settled at next reset (now (state .entry)) ⌝ }
-{
-    if reset {
-        drop_all(state);
-    } else {
-        state::put_record(state, at, next);
-    }
-}
+ghost use Rattle.board.specs.Calls.{Lent, store-of, called, served, message-call, powered, power-up-call, fed, sample-call, shown, image-call};
 
 fn place_of(line: u32) -> usize
     requires { ⌜ line ≤ 1 ⌝ }
@@ -66,15 +39,10 @@ fn serve(
     let at = place_of(line);
     let said = decode::message_of(message);
     if line::is_abort(said) {
-        state::put_record(state, at, record::all_zero());
+        state::clear_record(state, at);
         return 5;
     }
-    let t = state::record_at(state, at);
-    let reply = line::reply_to(said, message, values, t);
-    let told = line::act(values, block, reply);
-    let next = told.next;
-    let eight = told.eight;
-    settle(state, at, next, told.reset);
+    let eight = line::speak(values, block, state, at, said, message);
     wire::copy_at(answer, 0, &eight, 0, 8);
     0
 }
@@ -125,7 +93,7 @@ pub extern "C" fn gauge_power_up(values: &mut [u8], block: &mut [u8], state: &mu
         return 4;
     }
     gauge::power::fill(values, block);
-    drop_all(state);
+    state::drop_all(state);
     0
 }
 

@@ -8,6 +8,8 @@ ghost use mathlib.Core.Path.{_≡_};
 ghost use Prim.Native.Nat.{_+_, _≤_, _<_};
 ghost use lib.ListN.{length};
 ghost use Rattle.wire.specs.Splice.{splice};
+ghost use Rattle.sdo.specs.Records.{allZero};
+ghost use Rattle.board.specs.Calls.{dropped};
 ghost use Rattle.board.specs.State.{record-at, record-tail, record-bytes, trips-place, trips-at, trips-bytes, direction-of, direction-byte, is-on, bit};
 
 fn direction_of(n: u8) -> Direction
@@ -80,6 +82,15 @@ fn put_tail(state: &mut [u8], at: usize, t: Transfer)
     wire::put_byte(state, at + 69, bit_of(t.toggle));
 }
 
+// Makes a record all zero.
+pub fn clear_record(state: &mut [u8], at: usize)
+    requires { ⌜ at + 70 ≤ length (now state) ⌝ }
+    ensures { λ _. ⌜ now (state .exit) ≡ splice (now (state .entry)) at (record-bytes allZero) ⌝ }
+{
+    let zeros = [0u8; 70];
+    wire::copy_at(state, at, &zeros, 0, 70);
+}
+
 // Writes a record's 70 bytes.
 pub fn put_record(state: &mut [u8], at: usize, t: Transfer)
     requires { ⌜ at + 70 ≤ length (now state) ⌝ }
@@ -116,4 +127,18 @@ pub fn put_trips(state: &mut [u8], t: Trips)
     wire::put_byte(state, 193, bit_of(one.low));
     wire::put_byte(state, 194, bit_of(two.high));
     wire::put_byte(state, 195, bit_of(two.low));
+}
+
+// Both records all zero and the trips off.
+pub fn drop_all(state: &mut [u8])
+    requires { ⌜ length (now state) ≡ 256 ⌝ }
+    ensures { λ _. ⌜ now (state .exit) ≡ dropped (now (state .entry)) ⌝ }
+{
+    let off = On {
+        high: false,
+        low: false,
+    };
+    clear_record(state, 0);
+    clear_record(state, 96);
+    put_trips(state, Trips { one: off, two: off });
 }

@@ -77,15 +77,6 @@ pub bytes-verdict : (r : Row) (bytes : List ℕ) → length bytes ≡ r .len →
 unfolding row-verdict number
 bytes-verdict r bytes e = ap (λ (l : List ℕ). number-verdict r (fromLittle l)) (take-all (r .len) bytes (omega arith))
 
--- and so are those in the values
-pub entry-verdict : (r : Row) (values : List ℕ) → number-verdict r (number values (r .place) (r .len)) ≡ row-verdict r (entry-of r values)
-unfolding row-verdict number entry-of
-entry-verdict r values =
-    ⊎-elim
-    (λ h. ap (λ (n : ℕ). number-verdict r (fromLittle (take n (drop (r .place) values)))) (sym (held-is r (omega arith))))
-    (λ g. sym (no-number r _ g) ∙ no-number r _ g)
-    (lt-or-ge (r .kind) 6)
-
 -- ---- the default
 
 -- 32 bits between two finite patterns, by rank, are no NaN's

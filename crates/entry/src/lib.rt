@@ -6,12 +6,11 @@ use wire::wide;
 ghost use mathlib.Core.Path.{_≡_};
 ghost use Prim.Native.Nat.{_+_, _<_, _≤_};
 ghost use lib.ListN.{length, replicate};
-ghost use Rattle.wire.specs.Little.{number};
 ghost use Rattle.table.specs.Row.{REAL};
 ghost use Rattle.table.specs.Rows.{rows, row-count, at-row};
 ghost use Rattle.table.specs.Rule.{held};
 ghost use Rattle.entry.specs.Words.{worded, Room};
-ghost use Rattle.entry.specs.Entry.{held-by, entry-of, copied, stored, defaulted, defaults, number-verdict, row-verdict};
+ghost use Rattle.entry.specs.Entry.{held-by, copied, stored, defaulted, defaults, number-verdict, row-verdict};
 
 // The bytes that an entry has in the values, by its type and length.
 fn held_by(kind: u8, len: usize) -> usize
@@ -32,51 +31,39 @@ pub fn held_of(row: usize) -> usize
 
 // ---- judging
 
+// A number of the row, whose type is known.
+fn judge_kind(kind: u8, row: usize, v: u64) -> Verdict
+    requires { ⌜ (row < row-count) × (kind ≡ at-row row .kind) × (kind ≡ REAL → v < 4294967296) ⌝ }
+    ensures { λ r. ⌜ r ≡ number-verdict (at-row row) v ⌝ }
+{
+    let both = table::field::limits_of(row);
+    limits::judge_number(kind, both.low, both.high, v)
+}
+
 // A number, as one of the row's.
 pub fn judge_row_number(row: usize, v: u64) -> Verdict
     requires { ⌜ (row < row-count) × (at-row row .kind ≡ REAL → v < 4294967296) ⌝ }
     ensures { λ r. ⌜ r ≡ number-verdict (at-row row) v ⌝ }
 {
-    limits::judge_number(
-        table::field::kind_of(row),
-        table::field::low_of(row),
-        table::field::high_of(row),
-        v,
-    )
+    judge_kind(table::field::kind_of(row), row, v)
 }
 
-// The row's bytes, wherever they lie: only those of a number are looked at.
-fn judge_part(row: usize, bytes: &[u8], at: usize) -> Verdict
-    requires { ⌜ (row < row-count) × (at-row row .kind ≤ REAL → at + at-row row .len ≤ length (now bytes)) ⌝ }
-    ensures { λ r. ⌜ r ≡ number-verdict (at-row row) (number (now (bytes .entry)) at (at-row row .len)) ⌝ }
+// A value of the row's type and length: only the bytes of a number are looked at.
+pub fn judge(row: usize, kind: u8, value: &[u8]) -> Verdict
+    requires { ⌜ (row < row-count) × (kind ≡ at-row row .kind) × (length (now value) ≡ at-row row .len) ⌝ }
+    ensures { λ r. ⌜ r ≡ row-verdict (at-row row) (now (value .entry)) ⌝ }
 {
-    match table::field::kind_of(row) {
-        0..=5 => judge_row_number(row, wire::number_at(bytes, at, table::field::len_of(row))),
+    match kind {
+        0..=5 => judge_kind(kind, row, wire::number_at(value, 0, value.len())),
         _ => Verdict::Within,
     }
 }
 
-// A value of the row's length.
-pub fn judge(row: usize, value: &[u8]) -> Verdict
-    requires { ⌜ (row < row-count) × (length (now value) ≡ at-row row .len) ⌝ }
-    ensures { λ r. ⌜ r ≡ row-verdict (at-row row) (now (value .entry)) ⌝ }
-{
-    judge_part(row, value, 0)
-}
-
-// The entry that stands in the values.
-pub fn judge_at(values: &[u8], row: usize) -> Verdict
-    requires { ⌜ (length (now values) ≡ 1024) × (row < row-count) ⌝ }
-    ensures { λ r. ⌜ r ≡ row-verdict (at-row row) (entry-of (at-row row) (now (values .entry))) ⌝ }
-{
-    judge_part(row, values, table::field::place_of(row))
-}
-
 // ---- reading and storing
 
-// The row's bytes, with zeros behind them.
-pub fn read_entry(values: &[u8], row: usize) -> [u8; 64]
-    requires { ⌜ (length (now values) ≡ 1024) × (row < row-count) ⌝ }
+// The bytes of a row of this type and length, with zeros behind them.
+pub fn read_entry(values: &[u8], row: usize, kind: u8, len: usize) -> [u8; 64]
+    requires { ⌜ (length (now values) ≡ 1024) × (row < row-count) × (kind ≡ at-row row .kind) × (len ≡ at-row row .len) ⌝ }
     ensures { λ r. ⌜ r ≡ copied (at-row row) (now (values .entry)) ⌝ }
 {
     let mut bytes = [0u8; 64];
@@ -85,7 +72,7 @@ pub fn read_entry(values: &[u8], row: usize) -> [u8; 64]
         0,
         values,
         table::field::place_of(row),
-        held_of(row),
+        held_by(kind, len),
     );
     bytes
 }

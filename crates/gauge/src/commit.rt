@@ -68,25 +68,24 @@ fn obey(values: &mut [u8], block: &mut [u8], command: Command, bytes: &[u8]) -> 
 }
 
 // The code of the first of the last checks that refuses, 0 where none does.
-fn refusal(values: &[u8], row: usize, bytes: &[u8]) -> u32
-    requires { ⌜ (length (now values) ≡ 1024) × (row < row-count) × (length (now bytes) ≡ at-row row .len) ⌝ }
+fn refusal(values: &[u8], row: usize, kind: u8, bytes: &[u8]) -> u32
+    requires { ⌜ (length (now values) ≡ 1024) × (row < row-count) × (kind ≡ at-row row .kind) × (length (now bytes) ≡ at-row row .len) ⌝ }
     ensures { λ r. ⌜ r ≡ first-code (last-checks (at-row row) (now (values .entry)) (now (bytes .entry))) ⌝ }
 {
-    if lock::refuses(values, row) {
+    if lock::refuses(values, row, kind) {
         return 0x08000022;
     }
-    if field::kind_of(row) == 7 {
+    if kind == 7 {
         return entry::limits::code_of(card::judge(bytes));
     }
-    entry::limits::code_of(entry::judge(row, bytes))
+    entry::limits::code_of(entry::judge(row, kind, bytes))
 }
 
 // What an accepted write does.
-fn put(values: &mut [u8], block: &mut [u8], row: usize, bytes: &[u8]) -> Ending
-    requires { ⌜ (length (now values) ≡ 1024) × (length (now block) ≡ 512) × (row < row-count) × (length (now bytes) ≡ at-row row .len) ⌝ }
+fn put(values: &mut [u8], block: &mut [u8], row: usize, kind: u8, bytes: &[u8]) -> Ending
+    requires { ⌜ (length (now values) ≡ 1024) × (length (now block) ≡ 512) × (row < row-count) × (kind ≡ at-row row .kind) × (length (now bytes) ≡ at-row row .len) ⌝ }
     ensures { λ r. ⌜ left r (now (values .exit)) (now (block .exit)) ≡ left-by (memory-of (now (values .entry)) (now (block .entry))) (effect (at-row row) (now (bytes .entry)) (memory-of (now (values .entry)) (now (block .entry)))) ⌝ }
 {
-    let kind = field::kind_of(row);
     if kind == 7 {
         card::write(values, bytes);
         return Ending::Accepted;
@@ -103,9 +102,10 @@ pub fn commit(values: &mut [u8], block: &mut [u8], row: usize, bytes: &[u8]) -> 
     requires { ⌜ (length (now values) ≡ 1024) × (length (now block) ≡ 512) × (row < row-count) × (length (now bytes) ≡ at-row row .len) ⌝ }
     ensures { λ r. ⌜ left r (now (values .exit)) (now (block .exit)) ≡ left-by (memory-of (now (values .entry)) (now (block .entry))) (commit-row (at-row row) (now (bytes .entry)) (memory-of (now (values .entry)) (now (block .entry)))) ⌝ }
 {
-    let code = refusal(values, row, bytes);
+    let kind = field::kind_of(row);
+    let code = refusal(values, row, kind, bytes);
     if code != 0 {
         return Ending::Refused(code);
     }
-    put(values, block, row, bytes)
+    put(values, block, row, kind, bytes)
 }

@@ -7,15 +7,14 @@ ghost use lib.ListN.{length};
 ghost use Rattle.table.specs.Rows.{row-count, at-row};
 ghost use Rattle.gauge.specs.Lock.{guarded, locked};
 
-// Does the lock guard this row?
-fn guards(row: usize) -> bool
-    requires { ⌜ row < row-count ⌝ }
+// Does the lock guard this row, which has this type?
+fn guards(row: usize, kind: u8) -> bool
+    requires { ⌜ (row < row-count) × (kind ≡ at-row row .kind) ⌝ }
     ensures { λ r. ⌜ r ≡ guarded (at-row row) ⌝ }
 {
     if field::nv_of(row) == 1 {
         return true;
     }
-    let kind = field::kind_of(row);
     if kind == 7 {
         return true;
     }
@@ -25,13 +24,13 @@ fn guards(row: usize) -> bool
     false
 }
 
-// Is a write to this row refused by the lock as it stands now?
-pub fn refuses(values: &[u8], row: usize) -> bool
-    requires { ⌜ (length (now values) ≡ 1024) × (row < row-count) ⌝ }
+// Is a write to this row refused by the lock as it stands now? While the lock is open, the row is not looked at.
+pub fn refuses(values: &[u8], row: usize, kind: u8) -> bool
+    requires { ⌜ (length (now values) ≡ 1024) × (row < row-count) × (kind ≡ at-row row .kind) ⌝ }
     ensures { λ r. ⌜ r ≡ locked (at-row row) (now (values .entry)) ⌝ }
 {
-    if guards(row) {
-        return wire::byte_at(values, place::LOCK) == 1;
+    if wire::byte_at(values, place::LOCK) == 1 {
+        return guards(row, kind);
     }
     false
 }

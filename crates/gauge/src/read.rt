@@ -8,9 +8,9 @@ ghost use Rattle.wire.specs.Splice.{splice};
 ghost use Rattle.table.specs.Rows.{row-count, at-row};
 ghost use Rattle.gauge.specs.Whole.{value-of};
 
-// The entry's value as it is now, with zeros behind it.
-pub fn value_of(values: &[u8], row: usize) -> [u8; 64]
-    requires { ⌜ (length (now values) ≡ 1024) × (row < row-count) ⌝ }
+// The value as it is now of the entry with this row, index and length, with zeros behind it.
+pub fn value_of(values: &[u8], row: usize, index: u16, len: usize) -> [u8; 64]
+    requires { ⌜ (length (now values) ≡ 1024) × (row < row-count) × (index ≡ at-row row .index) × (len ≡ at-row row .len) ⌝ }
     ensures { λ r. ⌜ r ≡ splice (replicate 64 0) 0 (value-of (at-row row) (now (values .entry))) ⌝ }
 {
     let kind = field::kind_of(row);
@@ -18,7 +18,7 @@ pub fn value_of(values: &[u8], row: usize) -> [u8; 64]
         return card::card_of(values);
     }
     if kind == 8 {
-        return word::reading(word::command_at(field::index_of(row)));
+        return word::reading(word::command_at(index));
     }
-    entry::read_entry(values, row)
+    entry::read_entry(values, row, kind, len)
 }

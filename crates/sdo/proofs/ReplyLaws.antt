@@ -1,23 +1,27 @@
 -- What the replies to openings and parts come to, by the lengths.
-use Prim.Native.Nat.{ℕ, zero, suc, _-_, _/_, _%_, _≤_, _<_}
+use Prim.Native.Nat.{ℕ, zero, suc, _+_, _-_, _/_, _%_, _≤_, _<_}
 use native.Mathlib.Omega.{arith}
 use mathlib.Core.Path.{_≡_, refl, ap, subst}
-use mathlib.Core.Bool.{Bool, true, false, _&&_}
-use mathlib.Core.List.{List}
+use mathlib.Core.Bool.{Bool, true, false, Bool·beq, _&&_}
+use mathlib.Core.List.{List, []}
 use lib.Dec.{leb}
-use lib.ListN.{length, take, drop, getD, length-take}
+use lib.ListN.{length, take, drop, getD, replicate, length-take}
 use lib.Seq.{take-take}
-use borrow.Author.Tests.{lt-ltb, le-ltb, leb-true}
-use Rattle.wire.proofs.SpliceLaws.{part-length}
+use borrow.Author.Tests.{lt-ltb, le-ltb, lt-leb, le-leb, leb-true}
+use Rattle.wire.proofs.SpliceLaws.{part-length, part-same}
 use Rattle.table.specs.Rows.{at-row}
-use Rattle.order.specs.Talk.{announced, unsaid, own}
+use Rattle.table.specs.Rule.{pick}
+use Rattle.order.specs.Talk.{announced, unsaid, own, opened, writeOpened, partTaken, wrongToggle, noTransfer}
 use Rattle.order.specs.Gauge.{tooLong, tooShort}
 use Rattle.sdo.specs.declared.Key.{Key}
+use Rattle.sdo.specs.declared.Direction.the-variants.{Reads, Writes}
+use Rattle.sdo.specs.declared.Transfer.{Transfer}
 use Rattle.sdo.specs.declared.Message.{Message}
 use Rattle.sdo.specs.declared.Message.the-variants.{SendPart, WriteSized, WriteOwn, OpenAnnounced, OpenUnsaid, OpenRead, NextPart, GiveUp, Unknown}
-use Rattle.sdo.specs.Eight.{bit, choice, openingBy, messageOf, asked, askOf}
+use Rattle.sdo.specs.Eight.{bit, choice, openingBy, messageOf, asked, askOf, answerOf}
 use Rattle.sdo.specs.Lines.{short}
-use Rattle.sdo.specs.Replies.{refusal, openWriteReply, valueReply, expeditedReply}
+use Rattle.sdo.specs.Records.{keyAt, counts}
+use Rattle.sdo.specs.Replies.{Reply, ending, going, committing, refusal, is-reading, turned, partBytes, givenReply, nextPartReply, is-writing, grown, takenReply, sendPartReply, openedRecord, filled, openReadReply, openWriteBy, openWriteReply, valueReply, expeditedReply}
 use Rattle.sdo.proofs.Facts.{and-right}
 
 and-left : (a b : Bool) → (a && b) ≡ true → a ≡ true
@@ -26,6 +30,87 @@ and-left false b e = e
 
 pub short-in : (n : ℕ) → short n ≡ true → (1 ≤ n) × (n ≤ 4)
 short-in n e = (leb-true 1 n (and-left (leb 1 n) (leb n 4) e), leb-true n 4 (and-right (leb 1 n) (leb n 4) e))
+
+-- ---- parts of a read
+
+module _ (t : Transfer) where
+  pub given-last : {eight : List ℕ} → eight ≡ partBytes t (leb (t .len) (t .place + 7)) → t .len ≤ t .place + 7 → ending eight ≡ givenReply t
+  unfolding givenReply pick
+  given-last e h = simp (e, le-leb (t .len) (t .place + 7) h)
+
+  pub given-more : {eight : List ℕ} {next : Transfer} → eight ≡ partBytes t (leb (t .len) (t .place + 7)) → next ≡ turned t → t .place + 7 < t .len
+      → going eight next ≡ givenReply t
+  unfolding givenReply pick
+  given-more e n h = simp (e, n, lt-leb (t .len) (t .place + 7) h)
+
+  module _ (u : Bool) where
+    pub next-given : (is-reading (t .direction) && counts t) ≡ true → Bool·beq (t .toggle) u ≡ true → givenReply t ≡ nextPartReply t u
+    unfolding nextPartReply pick
+    next-given c e = simp (c, e)
+
+    pub next-wrong : {eight : List ℕ} → (is-reading (t .direction) && counts t) ≡ true → Bool·beq (t .toggle) u ≡ false → eight ≡ answerOf (wrongToggle (keyAt (t .row)))
+        → ending eight ≡ nextPartReply t u
+    unfolding nextPartReply pick
+    next-wrong c e a = simp (c, e, a)
+
+    pub next-none : {eight : List ℕ} → (is-reading (t .direction) && counts t) ≡ false → eight ≡ answerOf noTransfer → ending eight ≡ nextPartReply t u
+    unfolding nextPartReply pick
+    next-none c a = simp (c, a)
+
+-- ---- parts of a write
+
+module _ (t : Transfer) (bytes : List ℕ) (last : Bool) where
+  module _ {count : ℕ} (long : length bytes ≡ count) where
+    pub taken-long : t .len < t .place + count → refusal (t .row) tooLong ≡ takenReply t bytes last
+    unfolding takenReply pick
+    taken-long h = simp (long, lt-ltb (t .len) (t .place + count) h)
+
+    pub taken-short : last ≡ true → t .place + count < t .len → refusal (t .row) tooShort ≡ takenReply t bytes last
+    unfolding takenReply pick
+    taken-short e h = simp (long, le-ltb (t .len) (t .place + count) (omega arith), e, lt-ltb (t .place + count) (t .len) h)
+
+    pub taken-whole : last ≡ true → t .place + count ≡ t .len → committing (answerOf (partTaken (t .toggle))) (grown t bytes) ≡ takenReply t bytes last
+    unfolding takenReply pick
+    taken-whole e h = simp (long, le-ltb (t .len) (t .place + count) (omega arith), e, le-ltb (t .place + count) (t .len) (omega arith))
+
+    pub taken-more : last ≡ false → t .place + count ≤ t .len → going (answerOf (partTaken (t .toggle))) (grown t bytes) ≡ takenReply t bytes last
+    unfolding takenReply pick
+    taken-more e h = simp (long, le-ltb (t .len) (t .place + count) h, e)
+
+  module _ (u : Bool) where
+    pub sent-taken : (is-writing (t .direction) && counts t) ≡ true → Bool·beq (t .toggle) u ≡ true → takenReply t bytes last ≡ sendPartReply t u bytes last
+    unfolding sendPartReply pick
+    sent-taken c e = simp (c, e)
+
+    pub sent-wrong : {eight : List ℕ} → (is-writing (t .direction) && counts t) ≡ true → Bool·beq (t .toggle) u ≡ false → eight ≡ answerOf (wrongToggle (keyAt (t .row)))
+        → ending eight ≡ sendPartReply t u bytes last
+    unfolding sendPartReply pick
+    sent-wrong c e a = simp (c, e, a)
+
+    pub sent-none : {eight : List ℕ} → (is-writing (t .direction) && counts t) ≡ false → eight ≡ answerOf noTransfer → ending eight ≡ sendPartReply t u bytes last
+    unfolding sendPartReply pick
+    sent-none c a = simp (c, a)
+
+-- ---- openings on the row of their key
+
+module _ (row : ℕ) {k : Key} {eight : List ℕ} (key : k ≡ keyAt row) where
+  pub read-short : (held : List ℕ) (len : ℕ) → short len ≡ true → eight ≡ answerOf (opened k len (take len held) true) → ending eight ≡ openReadReply row held len
+  unfolding openReadReply pick
+  read-short held len s e = rw (s, e, key)
+
+  pub read-long : (held : List ℕ) (len : ℕ) {next : Transfer} → short len ≡ false → eight ≡ answerOf (opened k len [] false)
+      → next ≡ openedRecord Reads row held len → going eight next ≡ openReadReply row held len
+  unfolding openReadReply pick
+  read-long held len s e n = rw (s, e, key, n)
+
+  pub unsaid-opens : {len : ℕ} {next : Transfer} → len ≡ at-row row .len → eight ≡ answerOf (writeOpened k) → next ≡ openedRecord Writes row (replicate 64 0) len
+      → going eight next ≡ openWriteReply row unsaid
+  unfolding openWriteReply openWriteBy
+  unsaid-opens l e n = rw (e, key, n, l)
+
+-- the bytes that a whole value's record begins with
+pub filled-value : (bytes : List ℕ) (len : ℕ) → length bytes ≡ len → take len (filled bytes) ≡ bytes
+filled-value bytes len e = part-same (replicate 64 0) 0 bytes refl len e
 
 -- ---- a length announced against the row's
 

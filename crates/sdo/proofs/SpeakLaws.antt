@@ -25,11 +25,10 @@ use Rattle.sdo.specs.declared.Key.{Key}
 use Rattle.sdo.specs.declared.Direction.{Direction}
 use Rattle.sdo.specs.declared.Direction.the-variants.{Neither, Reads, Writes}
 use Rattle.sdo.specs.declared.Transfer.{Transfer}
-use Rattle.sdo.specs.declared.Reply.{Reply}
 use Rattle.sdo.specs.Eight.{askOf, answerOf}
 use Rattle.sdo.specs.Lines.{Entries, gauge, short, eight}
 use Rattle.sdo.specs.Records.{allZero, keyAt, rowNumber, counts, pending, view, zeroAt, base, lay, spoken, speak}
-use Rattle.sdo.specs.Replies.{ending, going, committing, refusal, is-reading, is-writing, givenReply, nextPartReply, grown, takenReply, sendPartReply, openedRecord, filled, openReadReply, openWriteBy, openWriteReply, expeditedBy, expeditedReply, concluded, actedBy, acted}
+use Rattle.sdo.specs.Replies.{Reply, ending, going, committing, refusal, is-reading, is-writing, givenReply, nextPartReply, grown, takenReply, sendPartReply, openedRecord, filled, openReadReply, openWriteBy, openWriteReply, expeditedBy, expeditedReply, concluded, actedBy, acted}
 use Rattle.sdo.proofs.RecordLaws.{at-most-64, counts-fits, found-key, found-number, Whole}
 
 module _ (E : Entries) where

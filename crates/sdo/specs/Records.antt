@@ -55,9 +55,12 @@ pub record RowOf (d : Direction) (k : Key) (n : ℕ) : Type 0 where
 
 -- "A transfer record whose row is outside the table or does not allow its direction, whose length is not the row's or whose place is beyond the
 -- length counts as none; any other is served as it stands"
+abbrev pub fitting : ℕ → Direction → ℕ → ℕ → Bool
+fitting row d len place = ltb row row-count && (allows d (at-row row .access) && (eqb len (at-row row .len) && leb place len))
+
 unfoldable pub counts : Transfer → Bool
 unfolding allows
-counts t = ltb (t .row) row-count && (allows (t .direction) (at-row (t .row) .access) && (eqb (t .len) (at-row (t .row) .len) && leb (t .place) (t .len)))
+counts t = fitting (t .row) (t .direction) (t .len) (t .place)
 
 unfoldable pub pending : Direction → Transfer → Pending Key
 pending Neither t = idle

@@ -14,12 +14,19 @@ use Rattle.sdo.specs.declared.Key.{Key}
 use Rattle.sdo.specs.declared.Direction.{Direction}
 use Rattle.sdo.specs.declared.Direction.the-variants.{Neither, Reads, Writes}
 use Rattle.sdo.specs.declared.Transfer.{Transfer}
-use Rattle.sdo.specs.declared.Act.{Act}
-use Rattle.sdo.specs.declared.Act.the-variants.{Done, Commit}
-use Rattle.sdo.specs.declared.Reply.{Reply}
 use Rattle.sdo.specs.Eight.{answerOf}
 use Rattle.sdo.specs.Lines.{Entries, short}
 use Rattle.sdo.specs.Records.{allZero, keyAt, counts, Spoken}
+
+-- what is still to be done with the store: nothing, or the first bytes held are written, by row and count
+pub data Act : Type 0 where
+  Done : Act
+  Commit : ℕ → ℕ → Act
+
+pub record Reply : Type 0 where
+  pub eight : List ℕ
+  pub next : Transfer
+  pub act : Act
 
 -- the answer ends the transfer, which "leaves its record all zero"
 abbrev pub ending : List ℕ → Reply

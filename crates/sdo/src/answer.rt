@@ -5,9 +5,10 @@ ghost use mathlib.Core.List.{[]};
 ghost use mathlib.Core.Path.{_≡_};
 ghost use Prim.Native.Nat.{_+_, _-_, _*_, _≤_, min};
 ghost use lib.Dec.{leb};
-ghost use lib.ListN.{take, drop, getD};
+ghost use lib.ListN.{length, take, drop, getD};
 ghost use Rattle.order.specs.Talk.{opened, partGiven, writeOpened, partTaken, refused, wrongToggle, noTransfer};
 ghost use Rattle.sdo.specs.Eight.{one, answerOf};
+ghost use Rattle.sdo.specs.Lines.{short};
 
 pub fn abort(k: Key, code: u32) -> [u8; 8]
     ensures { λ r. ⌜ r ≡ answerOf (refused k code) ⌝ }
@@ -81,17 +82,27 @@ pub fn opened_long(k: Key, len: usize) -> [u8; 8]
 }
 
 // The byte at i of the first len bytes held, or 0 past them.
-pub fn byte_at(held: [u8; 64], len: usize, i: usize) -> u8
-    requires { ⌜ len ≤ 64 ⌝ }
-    ensures { λ r. ⌜ r ≡ getD (take len held) i 0 ⌝ }
+fn byte_at(held: &[u8], len: usize, i: usize) -> u8
+    requires { ⌜ len ≤ length (now held) ⌝ }
+    ensures { λ r. ⌜ r ≡ getD (take len (now (held .entry))) i 0 ⌝ }
 {
     if i < len { held[i] } else { 0 }
 }
 
+// Is a value read with the answer that opens the read?
+pub fn is_short(len: usize) -> bool
+    ensures { λ r. ⌜ r ≡ short len ⌝ }
+{
+    if len < 1 {
+        return false;
+    }
+    len <= 4
+}
+
 // The opening of a read of up to four bytes, with the value.
-pub fn opened_short(k: Key, held: [u8; 64], len: usize) -> [u8; 8]
-    requires { ⌜ (1 ≤ len) × (len ≤ 4) ⌝ }
-    ensures { λ r. ⌜ r ≡ answerOf (opened k len (take len held) true) ⌝ }
+pub fn opened_short(k: Key, held: &[u8], len: usize) -> [u8; 8]
+    requires { ⌜ ((1 ≤ len) × (len ≤ 4)) × (length (now held) ≡ 64) ⌝ }
+    ensures { λ r. ⌜ r ≡ answerOf (opened k len (take len (now (held .entry))) true) ⌝ }
 {
     [
         (67 + 4 * (4 - len)) as u8,
@@ -120,9 +131,9 @@ pub fn part_head(toggle: bool, len: usize, place: usize) -> u8
     if toggle { 16 } else { 0 }
 }
 
-pub fn part_given(held: [u8; 64], len: usize, place: usize, toggle: bool) -> [u8; 8]
-    requires { ⌜ (len ≤ 64) × (place ≤ len) ⌝ }
-    ensures { λ r. ⌜ r ≡ answerOf (partGiven toggle (take 7 (drop place (take len held))) (leb len (place + 7))) ⌝ }
+pub fn part_given(held: &[u8], len: usize, place: usize, toggle: bool) -> [u8; 8]
+    requires { ⌜ ((len ≤ 64) × (place ≤ len)) × (length (now held) ≡ 64) ⌝ }
+    ensures { λ r. ⌜ r ≡ answerOf (partGiven toggle (take 7 (drop place (take len (now (held .entry))))) (leb len (place + 7))) ⌝ }
 {
     [
         part_head(toggle, len, place),

@@ -1,7 +1,6 @@
 // The eight bytes of a message and of an answer, and the transfer that a line holds, all by value.
 pub mod answer;
 pub mod decode;
-pub mod opening;
 pub mod record;
 
 // An entry's name: index and subindex.
@@ -38,18 +37,4 @@ pub struct Transfer {
     pub len: usize,
     pub place: usize,
     pub toggle: bool,
-}
-
-// What is still to be done with the values when a reply is made.
-pub enum Act {
-    // nothing: the reply stands
-    Done,
-    // write the first bytes held, row and count; the answer stands if that is accepted, and the record is then all zero
-    Commit(usize, usize),
-}
-
-pub struct Reply {
-    pub eight: [u8; 8],
-    pub next: Transfer,
-    pub act: Act,
 }

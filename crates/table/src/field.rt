@@ -61,16 +61,35 @@ pub fn def_of(row: usize) -> u64
     wide::word_to_u64(columns::DEFAULT[row])
 }
 
+// The least and the greatest number that a row takes.
+pub struct Limits {
+    pub low: u64,
+    pub high: u64,
+}
+
+pub fn limits_of(row: usize) -> Limits
+    requires { ⌜ row < row-count ⌝ }
+    ensures { λ r. ⌜ (r .low ≡ at-row row .low) × (r .high ≡ at-row row .high) ⌝ }
+{
+    let pair = wide::to_usize(columns::LIMITS[row]);
+    Limits {
+        low: columns::MINIMUM[pair],
+        high: columns::MAXIMUM[pair],
+    }
+}
+
 pub fn low_of(row: usize) -> u64
     requires { ⌜ row < row-count ⌝ }
     ensures { λ r. ⌜ r ≡ at-row row .low ⌝ }
 {
-    columns::MINIMUM[wide::to_usize(columns::LIMITS[row])]
+    let both = limits_of(row);
+    both.low
 }
 
 pub fn high_of(row: usize) -> u64
     requires { ⌜ row < row-count ⌝ }
     ensures { λ r. ⌜ r ≡ at-row row .high ⌝ }
 {
-    columns::MAXIMUM[wide::to_usize(columns::LIMITS[row])]
+    let both = limits_of(row);
+    both.high
 }

@@ -1,26 +1,23 @@
 -- `gauge::commit::put`: each return is one law, given what the calls ensure. Assumes nothing.
+use Rattle.gauge.proofs.CommitLaws.{card-length, other-held, put-card, put-command, put-other}
+use Rattle.table.specs.Rows.{at-row}
 use mathlib.Core.Path.{sym, _∙_}
 use borrow.Author.Needs.{needs}
-use Rattle.table.specs.Rows.{at-row}
-use Rattle.gauge.proofs.CommitLaws.{card-length, other-held, put-card, put-command, put-other}
 use Rattle.gauge.proofs.commit.put.Statement.{statement}
 use Rattle.gauge.proofs.commit.put.Tie as tie
-
-kind-of-requires : tie.Need-kind-of-requires
-kind-of-requires c κs = search needs
+use Rattle.gauge.proofs.commit.put.Reads as reads
+use Rattle.gauge.proofs.commit.put.Lts as lts
 
 write-requires : tie.Need-write-requires
-write-requires c κs =
-    let s = c .before .before .before .before .before .before in
-    (s .pre .0, s .pre .3 ∙ card-length (s .args .row) (s .pre .2) (sym (c .before .before .kind-of .ensures) ∙ c .before .if1 .taken))
+write-requires c κs = let s = c .before .before .before .before .before in (s .pre .0, s .pre .4 ∙ card-length (s .args .row) (s .pre .2) (sym (s .pre .3) ∙ c .before .if1 .taken))
 
 same-length : tie.Need-same-length
 same-length c = search needs
 
 returns : tie.Need-returns
 returns c =
-    let s = c .before .before .before .before .before .before .before .before .before in
-    put-card (s .args .values .now) (s .args .block .now) (at-row (s .args .row)) (s .args .bytes .now) (c .before .before .before .before .before .kind-of .result) (c .before .before .before .before .before .kind-of .ensures) (c .before .before .before .before .if1 .taken) (c .before .before .write .ensures)
+    let s = c .before .before .before .before .before .before .before .before in
+    put-card (s .args .values .now) (s .args .block .now) (at-row (s .args .row)) (s .args .bytes .now) (s .args .kind) (s .pre .3) (c .before .before .before .before .if1 .taken) (c .before .before .write .ensures)
 
 index-of-requires : tie.Need-index-of-requires
 index-of-requires c κs = search needs
@@ -39,27 +36,26 @@ same-length-3 c = search needs
 
 returns-2 : tie.Need-returns-2
 returns-2 c =
-    let s = c .before .before .before .before .before .before .before .before .before .before .before .before .before .before .before in
-    put-command (s .args .values .now) (s .args .block .now) (at-row (s .args .row)) (s .args .bytes .now) (c .before .before .before .before .before .before .before .before .before .before .before .kind-of .result) (c .before .before .before .before .before .before .before .before .before .before .before .kind-of .ensures) (c .before .before .before .before .before .before .before .before .before .if2 .taken) (c .before .before .before .before .obey .ensures ∙ rw (c .before .before .before .before .before .command-at .ensures, c .before .before .before .before .before .before .index-of .ensures))
+    let s = c .before .before .before .before .before .before .before .before .before .before .before .before .before .before in
+    put-command (s .args .values .now) (s .args .block .now) (at-row (s .args .row)) (s .args .bytes .now) (s .args .kind) (s .pre .3) (c .before .before .before .before .before .before .before .before .before .if2 .taken) (c .before .before .before .before .obey .ensures ∙ rw (c .before .before .before .before .before .command-at .ensures, c .before .before .before .before .before .before .index-of .ensures))
 
 store-entry-requires : tie.Need-store-entry-requires
 store-entry-requires c κs =
-    let s = c .before .before .before .before .before .before .before in
-    (s .pre .0, s .pre .2, s .pre .3 ∙ sym (other-held (s .args .row) (s .pre .2) (λ e. c .before .before .if1 .left (c .before .before .before .kind-of .ensures ∙ e)) (λ e. c .before .if2 .left (c .before .before .before .kind-of .ensures ∙ e))))
+    let s = c .before .before .before .before .before .before in
+    (s .pre .0, s .pre .2, s .pre .4 ∙ sym (other-held (s .args .row) (s .pre .2) (λ e. c .before .before .if1 .left (s .pre .3 ∙ e)) (λ e. c .before .if2 .left (s .pre .3 ∙ e))))
 
 same-length-4 : tie.Need-same-length-4
 same-length-4 c = search needs
 
 returns-3 : tie.Need-returns-3
 returns-3 c =
-    let s = c .before .before .before .before .before .before .before .before .before .before in
-    put-other (s .args .values .now) (s .args .block .now) (at-row (s .args .row)) (s .args .bytes .now) (c .before .before .before .before .before .before .kind-of .result) (c .before .before .before .before .before .before .kind-of .ensures) (c .before .before .before .before .before .if1 .left) (c .before .before .before .before .if2 .left) (c .before .before .store-entry .ensures)
+    let s = c .before .before .before .before .before .before .before .before .before in
+    put-other (s .args .values .now) (s .args .block .now) (at-row (s .args .row)) (s .args .bytes .now) (s .args .kind) (s .pre .3) (c .before .before .before .before .before .if1 .left) (c .before .before .before .before .if2 .left) (c .before .before .store-entry .ensures)
 
 pub put-spec : {M : Type 1} → statement M
 put-spec =
     tie.close
     (tie.spec
-    kind-of-requires
     write-requires
     same-length
     returns

@@ -1,23 +1,28 @@
--- `gauge::lock::refuses`: the lock byte is looked at only where the row is guarded. Assumes nothing.
-use mathlib.Core.Path.{sym, _∙_}
+-- `gauge::lock::refuses`: the row is looked at only where the lock is 1. Assumes nothing.
+use Rattle.gauge.specs.Lock.{guarded, locked}
+use Rattle.table.specs.Rows.{at-row}
+use borrow.Author.Tests.{eq-eqb, ne-eqb}
+use mathlib.Core.Bool.{Bool, _&&_, and-true, and-false}
+use mathlib.Core.Path.{sym, ap, _∙_}
 use borrow.Author.Needs.{needs}
-use Rattle.gauge.specs.Lock.{locked}
 use Rattle.gauge.proofs.lock.refuses.Statement.{statement}
 use Rattle.gauge.proofs.lock.refuses.Tie as tie
-
-guards-requires : tie.Need-guards-requires
-guards-requires c κs = search needs
+use Rattle.gauge.proofs.lock.refuses.Reads as reads
+use Rattle.gauge.proofs.lock.refuses.Lts as lts
 
 byte-at-requires : tie.Need-byte-at-requires
 byte-at-requires c κs = search needs
 
+guards-requires : tie.Need-guards-requires
+guards-requires c κs = search needs
+
 returns : tie.Need-returns
 unfolding locked
-returns c = simp (sym (c .before .before .guards .ensures) ∙ c .before .if1 .taken, c .byte-at .ensures)
+returns c = c .guards .ensures ∙ sym (ap (λ (b : Bool). guarded (at-row (c .before .before .before .before .args .row)) && b) (eq-eqb _ 1 (sym (c .before .before .byte-at .ensures) ∙ c .before .if1 .taken)) ∙ and-true (guarded (at-row (c .before .before .before .before .args .row))))
 
 returns-2 : tie.Need-returns-2
 unfolding locked
-returns-2 c = simp (sym (c .before .guards .ensures) ∙ c .if1 .left)
+returns-2 c = sym (ap (λ (b : Bool). guarded (at-row (c .before .before .before .args .row)) && b) (ne-eqb _ 1 (λ e. c .if1 .left (c .before .byte-at .ensures ∙ e))) ∙ and-false (guarded (at-row (c .before .before .before .args .row))))
 
 pub refuses-spec : {M : Type 1} → statement M
-refuses-spec = tie.close (tie.spec guards-requires byte-at-requires returns returns-2)
+refuses-spec = tie.close (tie.spec byte-at-requires guards-requires returns returns-2)

@@ -1,10 +1,12 @@
 -- `gauge::read::value_of`: each return is one law, given what the calls ensure. Assumes nothing.
+use Rattle.gauge.proofs.CommitLaws.{read-card, read-command, read-other}
+use Rattle.table.specs.Rows.{at-row}
 use mathlib.Core.Path.{_∙_}
 use borrow.Author.Needs.{needs}
-use Rattle.table.specs.Rows.{at-row}
-use Rattle.gauge.proofs.CommitLaws.{read-card, read-command, read-other}
 use Rattle.gauge.proofs.read.value_of.Statement.{statement}
 use Rattle.gauge.proofs.read.value_of.Tie as tie
+use Rattle.gauge.proofs.read.value_of.Reads as reads
+use Rattle.gauge.proofs.read.value_of.Lts as lts
 
 kind-of-requires : tie.Need-kind-of-requires
 kind-of-requires c κs = search needs
@@ -17,9 +19,6 @@ returns c =
     let s = c .before .before .before .before in
     read-card (at-row (s .args .row)) (s .args .values .now) (c .before .before .kind-of .result) (c .before .before .kind-of .ensures) (c .before .if1 .taken) (c .card-of .ensures)
 
-index-of-requires : tie.Need-index-of-requires
-index-of-requires c κs = search needs
-
 command-at-requires : tie.Need-command-at-requires
 command-at-requires c κs = search needs
 
@@ -28,8 +27,8 @@ reading-requires c κs = search needs
 
 returns-2 : tie.Need-returns-2
 returns-2 c =
-    let s = c .before .before .before .before .before .before .before in
-    read-command (at-row (s .args .row)) (s .args .values .now) (c .before .before .before .before .before .kind-of .result) (c .before .before .before .before .before .kind-of .ensures) (c .before .before .before .if2 .taken) (c .reading .ensures ∙ rw (c .before .command-at .ensures, c .before .before .index-of .ensures))
+    let s = c .before .before .before .before .before .before in
+    read-command (at-row (s .args .row)) (s .args .values .now) (c .before .before .before .before .kind-of .result) (c .before .before .before .before .kind-of .ensures) (c .before .before .if2 .taken) (c .reading .ensures ∙ rw (c .before .command-at .ensures, s .pre .2))
 
 read-entry-requires : tie.Need-read-entry-requires
 read-entry-requires c κs = search needs
@@ -46,7 +45,6 @@ value-of-spec =
     kind-of-requires
     card-of-requires
     returns
-    index-of-requires
     command-at-requires
     reading-requires
     returns-2

@@ -36,7 +36,7 @@ byte-at-requires-4 : tie.Need-byte-at-requires-4
 byte-at-requires-4 c κs = search needs
 
 returns : tie.Need-returns
-returns c = short-laid _ _ _ _ _ _ _ (omega arith) (omega (arith, c .before .before .before .before .before .before .good .0)) (c .before .before .before .byte-at .ensures) (c .before .before .byte-at2 .ensures) (c .before .byte-at3 .ensures) (c .byte-at4 .ensures)
+returns c = let h = c .before .before .before .before .before .before .before .pre .1 in short-laid _ _ _ _ _ _ _ (omega arith) (omega arith) (c .before .before .before .byte-at .ensures) (c .before .before .byte-at2 .ensures) (c .before .byte-at3 .ensures) (c .byte-at4 .ensures)
 
 pub opened-short-spec : {M : Type 1} → statement M
 opened-short-spec =

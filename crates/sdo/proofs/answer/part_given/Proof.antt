@@ -48,7 +48,7 @@ byte-at-requires-7 : tie.Need-byte-at-requires-7
 byte-at-requires-7 c κs = search needs
 
 returns : tie.Need-returns
-returns c = part-laid _ _ _ _ _ _ _ _ _ _ _ _ (omega (arith, c .before .before .before .before .before .before .before .before .good .0)) (c .before .before .before .before .before .before .before .part-head .ensures) (c .before .before .before .before .before .before .byte-at .ensures) (c .before .before .before .before .before .byte-at2 .ensures) (c .before .before .before .before .byte-at3 .ensures) (c .before .before .before .byte-at4 .ensures) (c .before .before .byte-at5 .ensures) (c .before .byte-at6 .ensures) (c .byte-at7 .ensures)
+returns c = let h = c .before .before .before .before .before .before .before .before .before .pre .1 in part-laid _ _ _ _ _ _ _ _ _ _ _ _ (omega arith) (c .before .before .before .before .before .before .before .part-head .ensures) (c .before .before .before .before .before .before .byte-at .ensures) (c .before .before .before .before .before .byte-at2 .ensures) (c .before .before .before .before .byte-at3 .ensures) (c .before .before .before .byte-at4 .ensures) (c .before .before .byte-at5 .ensures) (c .before .byte-at6 .ensures) (c .byte-at7 .ensures)
 
 pub part-given-spec : {M : Type 1} → statement M
 part-given-spec =

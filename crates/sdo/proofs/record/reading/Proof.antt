@@ -2,6 +2,7 @@
 use Rattle.sdo.proofs.Facts.{and-first}
 use mathlib.Core.Path.{ap, _∙_}
 use Rattle.sdo.specs.Replies.{is-reading}
+use Rattle.sdo.specs.Records.{counts}
 use borrow.Author.Needs.{needs}
 use Rattle.sdo.proofs.record.reading.Statement.{statement}
 use Rattle.sdo.proofs.record.reading.Tie as tie
@@ -23,7 +24,7 @@ unfolding is-reading
 returns c = rw (c .enum-told .given .1)
 
 returns-2 : tie.Need-returns-2
-unfolding is-reading
+unfolding is-reading counts
 returns-2 c = c .counts .ensures ∙ and-first (is-reading (c .before .before .before .args .t .direction)) _ (ap is-reading (c .before .enum-told2 .given .1))
 
 returns-3 : tie.Need-returns-3

@@ -2,6 +2,7 @@
 use Rattle.sdo.proofs.Facts.{and-first}
 use mathlib.Core.Path.{ap, _∙_}
 use Rattle.sdo.specs.Replies.{is-writing}
+use Rattle.sdo.specs.Records.{counts}
 use borrow.Author.Needs.{needs}
 use Rattle.sdo.proofs.record.writing.Statement.{statement}
 use Rattle.sdo.proofs.record.writing.Tie as tie
@@ -27,7 +28,7 @@ unfolding is-writing
 returns-2 c = rw (c .enum-told2 .given .1)
 
 returns-3 : tie.Need-returns-3
-unfolding is-writing
+unfolding is-writing counts
 returns-3 c = c .counts .ensures ∙ and-first (is-writing (c .before .before .before .args .t .direction)) _ (ap is-writing (c .before .enum-told3 .given .1))
 
 pub writing-spec : {M : Type 1} → statement M

@@ -1,0 +1,23 @@
+-- `board::reply::ended`: each return is one law, given what the calls ensure. Assumes nothing.
+use Rattle.board.proofs.Answered.{ended-kept}
+use borrow.Author.Needs.{needs}
+use Rattle.board.proofs.reply.ended.Statement.{statement}
+use Rattle.board.proofs.reply.ended.Tie as tie
+use Rattle.board.proofs.reply.ended.Reads as reads
+use Rattle.board.proofs.reply.ended.Lts as lts
+
+clear-record-requires : tie.Need-clear-record-requires
+clear-record-requires c κs = search needs
+
+same-length : tie.Need-same-length
+same-length c = search needs
+
+returns : tie.Need-returns
+returns c =
+    let s = c .before .before .before .before .before in
+    let p = s .args .at in
+    let o = s .args .state .now in
+    ended-kept p o (s .args .eight) (c .before .before .clear-record .ensures)
+
+pub ended-spec : {M : Type 1} → statement M
+ended-spec = tie.close (tie.spec clear-record-requires same-length returns)

@@ -1,0 +1,24 @@
+-- `judge_kind` is `number-verdict` of the row: the limits read, handed to `judge_number`.
+use mathlib.Core.Path.{_∙_}
+use Rattle.table.specs.Rows.{at-row}
+use Rattle.table.proofs.Table.{row-rule}
+use Rattle.entry.proofs.RowLaws.{judgeable, verdict-from}
+use borrow.Author.Needs.{needs}
+use Rattle.entry.proofs.judge_kind.Statement.{statement}
+use Rattle.entry.proofs.judge_kind.Tie as tie
+use Rattle.entry.proofs.judge_kind.Reads as reads
+use Rattle.entry.proofs.judge_kind.Lts as lts
+
+limits-of-requires : tie.Need-limits-of-requires
+limits-of-requires c κs = search needs
+
+judge-number-requires : tie.Need-judge-number-requires
+judge-number-requires c κs =
+    let b = c .before in
+    judgeable (at-row (b .args .row)) (b .pre .1) (c .limits-of .ensures .0) (c .limits-of .ensures .1) (b .args .v) (row-rule (b .args .row) (b .pre .0)) (λ e. b .pre .2 (b .pre .1 ∙ e))
+
+returns : tie.Need-returns
+returns c = let b = c .before .before in c .judge-number .ensures ∙ verdict-from (at-row (b .args .row)) (b .pre .1) (c .before .limits-of .ensures .0) (c .before .limits-of .ensures .1) (b .args .v)
+
+pub judge-kind-spec : {M : Type 1} → statement M
+judge-kind-spec = tie.close (tie.spec limits-of-requires judge-number-requires returns)
