@@ -1,9 +1,9 @@
 -- The turns of the walks over the NV rows. Assumes nothing.
-use mathlib.Core.Bool.{Bool, true, false, cond}
+use mathlib.Core.Bool.{Bool, true, false}
 use mathlib.Core.List.{List, [], _∷_, _++_, map}
 use mathlib.Core.Logic.{⊎-elim}
 use mathlib.Core.Path.{_≡_, refl, sym, ap, _∙_}
-use Prim.Native.Nat.{ℕ, zero, suc, _+_, _*_, _^_, _≤_, _<_}
+use Prim.Native.Nat.{ℕ, zero, suc, _+_, _^_, _≤_, _<_}
 use native.Mathlib.Nat.{not-suc-le-zero, le-of-suc-le-suc, add-zero}
 use native.Mathlib.Numerals.{add-one}
 use native.Mathlib.Omega.{arith}
@@ -17,12 +17,12 @@ use Rattle.block.proofs.Kept.{Kept, kept}
 use Rattle.block.proofs.Tables.{table-keeps, table-used}
 use Rattle.block.proofs.Walking.{Keeps, keeps-at, keeps-take, fits, part-long, length-saved, length-starts, length-numbers, widths-next, widths-all, saved-next, load-next, number-here, held-next, saved-front-next, start-here}
 use Rattle.block.proofs.Zeros.{zero-behind}
-use Rattle.block.specs.Asked.{starts, Fields, cut, Cuts, Places, lowest, highest, Limits, Sized, entry-len, held-number, between, held-front, saved-front, saved-numbers, Front}
+use Rattle.block.specs.Asked.{Fields, cut, Cuts, Places, lowest, highest, Limits, Sized, entry-len, held-number, between, held-front, saved-front, saved-numbers, Front}
 use Rattle.block.specs.Block.{width, row-width, part, entry-bits, entry-bytes, within, nv-rows, widths, saved, load-rows, all-zero}
 use Rattle.block.specs.Saved.{nv}
 use Rattle.table.proofs.Table.{rows-pass, row-rule}
 use Rattle.table.proofs.Walks.{lt-or-ge}
-use Rattle.table.specs.Row.{Row, no-row, BOOL, REAL}
+use Rattle.table.specs.Row.{Row, no-row, REAL}
 use Rattle.table.specs.Rows.{rows, row-count, at-row, nv-count, nv-end}
 use Rattle.table.specs.Rule.{rank}
 use Rattle.wire.proofs.SpliceLaws.{splice-then, splice-none}
