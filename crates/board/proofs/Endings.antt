@@ -1,6 +1,6 @@
 -- How a whole write ends the transfer, by what the gauge's commit ensures. Assumes nothing.
-use mathlib.Core.Path.{_≡_, refl, sym, ap, _∙_}
-use mathlib.Core.Bool.{Bool, true, false}
+use mathlib.Core.Path.{_≡_, ap, _∙_}
+use mathlib.Core.Bool.{true, false}
 use mathlib.Core.List.{List}
 use Prim.Native.Nat.{ℕ, _<_, _≤_}
 use native.Mathlib.Omega.{arith}
@@ -9,7 +9,6 @@ use Rattle.order.specs.Talk.{Outcome, stored, restarted, declined, refused}
 use Rattle.table.specs.Rows.{at-row, row-count}
 use Rattle.table.proofs.Table.{row-rule}
 use Rattle.gauge.specs.Memory.{Memory, memory-of}
-use Rattle.gauge.specs.Whole.{commit-row}
 use Rattle.gauge.specs.Endings.{Left, left-by}
 use Rattle.gauge.specs.Endings as gauge
 use Rattle.gauge.specs.declared.commit.Ending.{Ending}
@@ -18,7 +17,7 @@ use Rattle.sdo.specs.Eight.{answerOf}
 use Rattle.sdo.specs.Records.{allZero, keyAt}
 use Rattle.sdo.specs.Replies.{ending}
 use Rattle.board.specs.Calls.{dropped, settled}
-use Rattle.board.specs.Answering.{Acted, acted, concluded, Kept, kept, replied, told, told-by}
+use Rattle.board.specs.Answering.{acted, concluded, Kept, kept, replied, told, told-by}
 
 module _ (m : Memory) (row : ℕ) (eight v b : List ℕ) {e : Ending} where
   ended-as : (x : Ending) (o : Outcome Memory) → gauge.left e v b ≡ left-by m o → e ≡ x → gauge.left x v b ≡ left-by m o

@@ -32,13 +32,14 @@ fn conclude(
     state: &mut [u8],
     at: usize,
     row: usize,
+    kind: u8,
     bytes: &[u8],
     eight: [u8; 8],
 ) -> [u8; 8]
-    requires { ⌜ Ready at (now values) (now block) (now state) × (row < row-count) × (length (now bytes) ≡ at-row row .len) ⌝ }
+    requires { ⌜ Ready at (now values) (now block) (now state) × (row < row-count) × (kind ≡ at-row row .kind) × (length (now bytes) ≡ at-row row .len) ⌝ }
     ensures { λ r. ⌜ told (now (values .exit)) (now (block .exit)) (now (state .exit)) r ≡ told-by at (now (state .entry)) (concluded (memory-of (now (values .entry)) (now (block .entry))) row eight (commit-row (at-row row) (now (bytes .entry)) (memory-of (now (values .entry)) (now (block .entry))))) ⌝ }
 {
-    let ending = gauge::commit::commit(values, block, row, bytes);
+    let ending = gauge::commit::commit(values, block, row, kind, bytes);
     match ending {
         Ending::Accepted => reply::ended(state, at, eight),
         Ending::Restarted => {
@@ -68,7 +69,7 @@ fn take_part(
     let row = t.row;
     let len = t.len;
     let place = t.place;
-    let toggle = t.toggle;
+    let eight = answer::part_taken(t.toggle);
     if len < place + count {
         return reply::refused(state, at, record::key_at(row), 0x06070012);
     }
@@ -78,22 +79,10 @@ fn take_part(
         }
         let next = record::grown(t, m, count);
         let held = next.held;
-        return conclude(
-            values,
-            block,
-            state,
-            at,
-            row,
-            &held[..len],
-            answer::part_taken(toggle),
-        );
+        let kind = table::field::kind_of(row);
+        return conclude(values, block, state, at, row, kind, &held[..len], eight);
     }
-    reply::going(
-        state,
-        at,
-        record::grown(t, m, count),
-        answer::part_taken(toggle),
-    )
+    reply::going(state, at, record::grown(t, m, count), eight)
 }
 
 pub fn send_part(
@@ -123,16 +112,24 @@ pub fn send_part(
 
 // ---- openings on the row of their key
 
-// A write in parts, its length not announced.
+// A write in parts, of the row's own length.
+fn open_parts(state: &mut [u8], at: usize, k: Key, row: usize, len: usize) -> [u8; 8]
+    requires { ⌜ (at + 70 ≤ length (now state)) × (row < row-count) × (k ≡ keyAt row) × (len ≡ at-row row .len) ⌝ }
+    ensures { λ r. ⌜ kept (now (state .exit)) r ≡ replied at (now (state .entry)) (openWriteReply row unsaid) ⌝ }
+{
+    let next = record::opened(Direction::Writes, row, [0; 64], len);
+    reply::going(state, at, next, answer::write_opened(k))
+}
+
+// Its length is not announced.
 fn open_unsaid(state: &mut [u8], at: usize, k: Key, row: usize) -> [u8; 8]
     requires { ⌜ (at + 70 ≤ length (now state)) × (row < row-count) × (k ≡ keyAt row) ⌝ }
     ensures { λ r. ⌜ kept (now (state .exit)) r ≡ replied at (now (state .entry)) (openWriteReply row unsaid) ⌝ }
 {
-    let next = record::opened(Direction::Writes, row, [0; 64], table::field::len_of(row));
-    reply::going(state, at, next, answer::write_opened(k))
+    open_parts(state, at, k, row, table::field::len_of(row))
 }
 
-// A write in parts, its length announced.
+// Its length is announced.
 fn open_announced(state: &mut [u8], at: usize, k: Key, row: usize, n: u32) -> [u8; 8]
     requires { ⌜ (at + 70 ≤ length (now state)) × (row < row-count) × (k ≡ keyAt row) ⌝ }
     ensures { λ r. ⌜ kept (now (state .exit)) r ≡ replied at (now (state .entry)) (openWriteReply row (announced n)) ⌝ }
@@ -145,7 +142,7 @@ fn open_announced(state: &mut [u8], at: usize, k: Key, row: usize, n: u32) -> [u
     if said < len {
         return reply::refused(state, at, k, 0x06070013);
     }
-    open_unsaid(state, at, k, row)
+    open_parts(state, at, k, row, len)
 }
 
 // The value in bytes 4 to 7 of message m, of the row's own length.
@@ -156,10 +153,11 @@ fn with_value(
     at: usize,
     k: Key,
     row: usize,
+    kind: u8,
     len: usize,
     m: &[u8],
 ) -> [u8; 8]
-    requires { ⌜ Ready at (now values) (now block) (now state) × ((row < row-count) × (k ≡ keyAt row)) × (len ≡ at-row row .len) × (len ≤ 4) × (length (now m) ≡ 8) ⌝ }
+    requires { ⌜ Ready at (now values) (now block) (now state) × ((row < row-count) × (k ≡ keyAt row) × (kind ≡ at-row row .kind)) × (len ≡ at-row row .len) × (len ≤ 4) × (length (now m) ≡ 8) ⌝ }
     ensures { λ r. ⌜ told (now (values .exit)) (now (block .exit)) (now (state .exit)) r ≡ answered at (now (values .entry)) (now (block .entry)) (now (state .entry)) (valueReply row len (now (m .entry))) ⌝ }
 {
     conclude(
@@ -168,6 +166,7 @@ fn with_value(
         state,
         at,
         row,
+        kind,
         &m[4..4 + len],
         answer::write_opened(k),
     )
@@ -187,14 +186,15 @@ fn write_sized(
     requires { ⌜ Ready at (now values) (now block) (now state) × ((row < row-count) × (k ≡ keyAt row)) × (length (now m) ≡ 8) × (count ≤ 4) ⌝ }
     ensures { λ r. ⌜ told (now (values .exit)) (now (block .exit)) (now (state .exit)) r ≡ answered at (now (values .entry)) (now (block .entry)) (now (state .entry)) (expeditedReply row (announced count) (take count (drop 4 (now (m .entry))))) ⌝ }
 {
-    let len = table::field::len_of(row);
+    let kind = table::field::kind_of(row);
+    let len = table::field::len_by(row, kind);
     if len < count {
         return reply::refused(state, at, k, 0x06070012);
     }
     if count < len {
         return reply::refused(state, at, k, 0x06070013);
     }
-    with_value(values, block, state, at, k, row, len, m)
+    with_value(values, block, state, at, k, row, kind, len, m)
 }
 
 // A write of the entry's own length.
@@ -210,11 +210,12 @@ fn write_own(
     requires { ⌜ Ready at (now values) (now block) (now state) × ((row < row-count) × (k ≡ keyAt row)) × (length (now m) ≡ 8) ⌝ }
     ensures { λ r. ⌜ told (now (values .exit)) (now (block .exit)) (now (state .exit)) r ≡ answered at (now (values .entry)) (now (block .entry)) (now (state .entry)) (expeditedReply row own (take 4 (drop 4 (now (m .entry))))) ⌝ }
 {
-    let len = table::field::len_of(row);
+    let kind = table::field::kind_of(row);
+    let len = table::field::len_by(row, kind);
     if 4 < len {
         return reply::refused(state, at, k, 0x06070013);
     }
-    with_value(values, block, state, at, k, row, len, m)
+    with_value(values, block, state, at, k, row, kind, len, m)
 }
 
 fn open_on(

@@ -1,14 +1,12 @@
 -- `board::write::conclude`: each return is one law, given what the calls ensure. Assumes nothing.
+use borrow.Author.Needs.{needs}
+use Rattle.table.specs.Rows.{at-row}
+use Rattle.gauge.specs.Memory.{memory-of}
+use Rattle.gauge.specs.Whole.{commit-row}
 use Rattle.board.proofs.Answered.{refused-row}
 use Rattle.board.proofs.Endings.{accepted-told, restarted-told, refused-told}
-use Rattle.gauge.specs.Whole.{commit-row}
-use Rattle.gauge.specs.Memory.{memory-of}
-use Rattle.table.specs.Rows.{at-row}
-use borrow.Author.Needs.{needs}
 use Rattle.board.proofs.write.conclude.Statement.{statement}
 use Rattle.board.proofs.write.conclude.Tie as tie
-use Rattle.board.proofs.write.conclude.Reads as reads
-use Rattle.board.proofs.write.conclude.Lts as lts
 
 commit-requires : tie.Need-commit-requires
 commit-requires c κs = search needs

@@ -1,28 +1,25 @@
 -- `board::write::with_value`: each return is one law, given what the calls ensure. Assumes nothing.
-use Prim.Native.Nat.{ℕ, _+_, _-_}
--- `board::write::with_value`: each return is one law, given what the calls ensure. Assumes nothing.
-use Rattle.board.proofs.Answered.{committed-told}
-use Rattle.board.specs.Answering.{concluded, told-by}
-use Rattle.sdo.proofs.ReplyLaws.{filled-value}
-use Rattle.sdo.specs.Replies.{openedRecord, filled}
-use Rattle.sdo.specs.Records.{keyAt}
-use Rattle.sdo.specs.Eight.{answerOf}
-use Rattle.sdo.specs.declared.Direction.the-variants.{Writes}
-use Rattle.sdo.specs.declared.Key.{Key}
-use Rattle.gauge.specs.Whole.{commit-row}
-use Rattle.gauge.specs.Memory.{memory-of}
-use Rattle.table.specs.Rows.{at-row}
-use Rattle.order.specs.Talk.{writeOpened}
-use Rattle.wire.proofs.SpliceLaws.{part-length}
-use lib.ListN.{length, take, drop}
-use native.Mathlib.Omega.{arith}
 use mathlib.Core.List.{List}
 use mathlib.Core.Path.{_≡_, sym, ap, ap₂, _∙_}
+use Prim.Native.Nat.{ℕ, _+_, _-_}
+use native.Mathlib.Omega.{arith}
+use lib.ListN.{length, take, drop}
 use borrow.Author.Needs.{needs}
+use Rattle.wire.proofs.SpliceLaws.{part-length}
+use Rattle.order.specs.Talk.{writeOpened}
+use Rattle.table.specs.Rows.{at-row}
+use Rattle.gauge.specs.Memory.{memory-of}
+use Rattle.gauge.specs.Whole.{commit-row}
+use Rattle.sdo.specs.Eight.{answerOf}
+use Rattle.sdo.specs.Records.{keyAt}
+use Rattle.sdo.specs.Replies.{openedRecord, filled}
+use Rattle.sdo.specs.declared.Direction.the-variants.{Writes}
+use Rattle.sdo.specs.declared.Key.{Key}
+use Rattle.sdo.proofs.ReplyLaws.{filled-value}
+use Rattle.board.specs.Answering.{concluded, told-by}
+use Rattle.board.proofs.Answered.{committed-told}
 use Rattle.board.proofs.write.with_value.Statement.{statement}
 use Rattle.board.proofs.write.with_value.Tie as tie
-use Rattle.board.proofs.write.with_value.Reads as reads
-use Rattle.board.proofs.write.with_value.Lts as lts
 
 add-conclude : tie.Need-add-conclude
 add-conclude c = search needs
