@@ -17,15 +17,16 @@ ghost use Rattle.order.specs.Talk.{announced, unsaid, own};
 ghost use Rattle.table.specs.Rows.{row-count, at-row};
 ghost use Rattle.table.specs.Find.{find-row};
 ghost use Rattle.gauge.specs.Gates.{write-gate};
+ghost use Rattle.gauge.specs.Endings.{left, left-by};
 ghost use Rattle.gauge.specs.Memory.{memory-of};
 ghost use Rattle.gauge.specs.Whole.{commit-row};
 ghost use Rattle.sdo.specs.Eight.{messageOf};
 ghost use Rattle.sdo.specs.Records.{keyAt};
 ghost use Rattle.sdo.specs.Replies.{takenReply, sendPartReply, openWriteReply, valueReply, expeditedReply};
 ghost use Rattle.board.specs.State.{record-at};
-ghost use Rattle.board.specs.Answering.{Ready, kept, replied, told, told-by, answered, through, open-write, concluded};
+ghost use Rattle.board.specs.Answering.{Ready, kept, replied, told, answered, through, open-write, state-by, eight-by};
 
-// A whole write ends the transfer, with the answer that says yes or with a code; after a device reset no line has one.
+// A whole write ends the transfer; after a device reset no line has one.
 fn conclude(
     values: &mut [u8],
     block: &mut [u8],
@@ -34,19 +35,36 @@ fn conclude(
     row: usize,
     kind: u8,
     bytes: &[u8],
-    eight: [u8; 8],
-) -> [u8; 8]
+) -> Ending
     requires { ⌜ Ready at (now values) (now block) (now state) × (row < row-count) × (kind ≡ at-row row .kind) × (length (now bytes) ≡ at-row row .len) ⌝ }
-    ensures { λ r. ⌜ told (now (values .exit)) (now (block .exit)) (now (state .exit)) r ≡ told-by at (now (state .entry)) (concluded (memory-of (now (values .entry)) (now (block .entry))) row eight (commit-row (at-row row) (now (bytes .entry)) (memory-of (now (values .entry)) (now (block .entry))))) ⌝ }
+    ensures { λ r. ⌜ (left r (now (values .exit)) (now (block .exit)) ≡ left-by (memory-of (now (values .entry)) (now (block .entry))) (commit-row (at-row row) (now (bytes .entry)) (memory-of (now (values .entry)) (now (block .entry))))) × (now (state .exit) ≡ state-by at r (now (state .entry))) ⌝ }
 {
     let ending = gauge::commit::commit(values, block, row, kind, bytes);
     match ending {
-        Ending::Accepted => reply::ended(state, at, eight),
+        Ending::Accepted => {
+            state::clear_record(state, at);
+            Ending::Accepted
+        }
         Ending::Restarted => {
             state::drop_all(state);
-            eight
+            Ending::Restarted
         }
-        Ending::Refused(code) => reply::refused(state, at, record::key_at(row), code),
+        Ending::Refused(code) => {
+            state::clear_record(state, at);
+            Ending::Refused(code)
+        }
+    }
+}
+
+// The answer to a whole write: the one that says yes, or the abort with its code.
+fn answer_by(ending: Ending, row: usize, eight: [u8; 8]) -> [u8; 8]
+    requires { ⌜ row < row-count ⌝ }
+    ensures { λ r. ⌜ r ≡ eight-by row eight ending ⌝ }
+{
+    match ending {
+        Ending::Accepted => eight,
+        Ending::Restarted => eight,
+        Ending::Refused(code) => answer::abort(record::key_at(row), code),
     }
 }
 
@@ -80,7 +98,8 @@ fn take_part(
         let next = record::grown(t, m, count);
         let held = next.held;
         let kind = table::field::kind_of(row);
-        return conclude(values, block, state, at, row, kind, &held[..len], eight);
+        let ending = conclude(values, block, state, at, row, kind, &held[..len]);
+        return answer_by(ending, row, eight);
     }
     reply::going(state, at, record::grown(t, m, count), eight)
 }
@@ -160,16 +179,8 @@ fn with_value(
     requires { ⌜ Ready at (now values) (now block) (now state) × ((row < row-count) × (k ≡ keyAt row) × (kind ≡ at-row row .kind)) × (len ≡ at-row row .len) × (len ≤ 4) × (length (now m) ≡ 8) ⌝ }
     ensures { λ r. ⌜ told (now (values .exit)) (now (block .exit)) (now (state .exit)) r ≡ answered at (now (values .entry)) (now (block .entry)) (now (state .entry)) (valueReply row len (now (m .entry))) ⌝ }
 {
-    conclude(
-        values,
-        block,
-        state,
-        at,
-        row,
-        kind,
-        &m[4..4 + len],
-        answer::write_opened(k),
-    )
+    let ending = conclude(values, block, state, at, row, kind, &m[4..4 + len]);
+    answer_by(ending, row, answer::write_opened(k))
 }
 
 // A write of the count bytes in the message.

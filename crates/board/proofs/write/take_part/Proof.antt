@@ -17,7 +17,7 @@ use Rattle.sdo.specs.declared.Transfer.{Transfer}
 use Rattle.sdo.proofs.ReplyLaws.{taken-long, taken-short, taken-whole, taken-more}
 use Rattle.board.specs.Answering.{concluded, told-by, answered}
 use Rattle.board.proofs.Answered.{refused-row, told-as, committed-told}
-use Rattle.board.proofs.Endings.{committed-most, committed-length}
+use Rattle.board.proofs.Endings.{concluded-told, committed-most, committed-length}
 use Rattle.board.proofs.write.take_part.Statement.{statement}
 use Rattle.board.proofs.write.take_part.Tie as tie
 
@@ -87,6 +87,9 @@ slice-aggregate-conclude c = let a : length (c .before .before .before .before .
 conclude-requires : tie.Need-conclude-requires
 conclude-requires c κs = let a : length (c .before .before .before .before .before .before .grown .result .held) ≡ 64 = search needs in (c .before .before .before .before .before .before .before .before .before .before .before .before .before .before .before .pre .0, c .before .before .before .before .before .before .before .before .before .before .before .before .before .before .before .pre .2, c .before .before .before .before .kind-of .ensures, committed-length (c .before .before .before .before .before .before .before .before .before .before .before .before .before .before .before .args .t .row) (c .before .before .before .before .before .before .before .before .before .before .before .before .before .before .before .pre .2) (c .before .before .before .before .before .before .before .before .before .before .before .before .before .before .before .pre .3) (c .before .before .before .before .before .before .grown .result .held) a ∙ c .before .before .before .before .before .before .before .before .before .before .before .before .before .before .before .pre .3)
 
+answer-by-requires : tie.Need-answer-by-requires
+answer-by-requires c κs = search needs
+
 same-length-3 : tie.Need-same-length-3
 same-length-3 c = search needs
 
@@ -98,7 +101,7 @@ same-length-5 c = search needs
 
 returns-3 : tie.Need-returns-3
 returns-3 c =
-    let s = c .before .before .before .before .before .before .before .before .before .before .before .before .before .before .before .before .before .before .before .before .before .before in
+    let s = c .before .before .before .before .before .before .before .before .before .before .before .before .before .before .before .before .before .before .before .before .before .before .before in
     let p = s .args .at in
     let v = s .args .values .now in
     let b = s .args .block .now in
@@ -106,8 +109,13 @@ returns-3 c =
     let t = s .args .t in
     let bytes = take (s .args .count) (drop 1 (s .args .m .now)) in
     let long = part-length (s .args .m .now) 1 (s .args .count) (omega (arith, s .pre .1 .0, s .pre .1 .1)) in
-    let full : t .place + s .args .count ≡ t .len = omega (arith, c .before .before .before .before .before .before .before .before .before .before .before .before .before .before .before .before .if1 .left, c .before .before .before .before .before .before .before .before .before .before .before .before .before .before .if3 .left) in
-    committed-told p v b o (answerOf (partTaken (t .toggle))) (grown t bytes) (c .before .before .before .before .before .before .conclude .ensures ∙ ap₂ (λ (e : List ℕ) (g : Transfer). told-by p o (concluded (memory-of v b) (t .row) e (commit-row (at-row (t .row)) (take (t .len) (g .held)) (memory-of v b)))) (c .before .before .before .before .before .before .before .before .before .before .before .before .before .before .before .before .before .part-taken .ensures) (c .before .before .before .before .before .before .before .before .before .before .before .before .before .grown .ensures)) ∙ ap (answered p v b o) (taken-whole t bytes (s .args .last) long (c .before .before .before .before .before .before .before .before .before .before .before .before .before .before .before .if2 .taken) full)
+    let full : t .place + s .args .count ≡ t .len = omega (arith, c .before .before .before .before .before .before .before .before .before .before .before .before .before .before .before .before .before .if1 .left, c .before .before .before .before .before .before .before .before .before .before .before .before .before .before .before .if3 .left) in
+    let end = c .before .before .before .before .before .before .before .conclude in
+    let yes = c .before .before .before .before .before .before .before .before .before .before .before .before .before .before .before .before .before .before .part-taken in
+    committed-told p v b o (answerOf (partTaken (t .toggle))) (grown t bytes)
+    (concluded-told (memory-of v b) (t .row) (yes .result) _ _ p o _ (end .result) (end .ensures .0) (end .ensures .1) (c .answer-by .ensures)
+    ∙ ap₂ (λ (e : List ℕ) (g : Transfer). told-by p o (concluded (memory-of v b) (t .row) e (commit-row (at-row (t .row)) (take (t .len) (g .held)) (memory-of v b)))) (yes .ensures) (c .before .before .before .before .before .before .before .before .before .before .before .before .before .before .grown .ensures))
+    ∙ ap (answered p v b o) (taken-whole t bytes (s .args .last) long (c .before .before .before .before .before .before .before .before .before .before .before .before .before .before .before .before .if2 .taken) full)
 
 grown-requires-2 : tie.Need-grown-requires-2
 grown-requires-2 c κs = let h = committed-most (c .before .before .before .before .before .before .before .before .args .t .row) (c .before .before .before .before .before .before .before .before .pre .2) (c .before .before .before .before .before .before .before .before .pre .3) in search needs
@@ -150,6 +158,7 @@ take-part-spec =
     array-share-prefix-held
     slice-aggregate-conclude
     conclude-requires
+    answer-by-requires
     same-length-3
     same-length-4
     same-length-5
