@@ -17,7 +17,7 @@ use Rattle.block.proofs.Kept.{Kept, kept}
 use Rattle.block.proofs.Tables.{table-keeps, table-used}
 use Rattle.block.proofs.Walking.{Keeps, keeps-at, keeps-take, fits, part-long, length-saved, length-starts, length-numbers, widths-next, widths-all, saved-next, load-next, number-here, held-next, saved-front-next, start-here}
 use Rattle.block.proofs.Zeros.{zero-behind}
-use Rattle.block.specs.Asked.{Fields, cut, Cuts, Places, lowest, highest, Limits, Sized, entry-len, held-number, between, held-front, saved-front, saved-numbers, Front}
+use Rattle.block.specs.Asked.{Fields, cut, Cuts, Places, lowest, highest, Limits, Sized, fresh-bytes, entry-len, held-number, between, held-front, saved-front, saved-numbers, Front}
 use Rattle.block.specs.Block.{width, row-width, part, entry-bits, entry-bytes, within, nv-rows, widths, saved, load-rows, all-zero}
 use Rattle.block.specs.Saved.{nv}
 use Rattle.table.proofs.Table.{rows-pass, row-rule}
@@ -209,12 +209,12 @@ module _ {i kind at width' : ℕ} (g : Here i kind at width') where
     before-long : length (saved values (take i nv)) ≡ widths (take i nv)
     before-long = length-saved values (take i nv) (keeps-take nv i nv-keep) lv
 
-    pub zero-here : (l : List ℕ) {bs : List ℕ} → length l ≡ 4096 → all-zero (drop 8 l) ≡ true → bs ≡ splice l 8 (saved values (take i nv)) → all-zero (drop at bs) ≡ true
+    pub zero-here : (l : List ℕ) {bs : List ℕ} → length l ≡ 8 * fresh-bytes → all-zero (drop 8 l) ≡ true → bs ≡ splice l 8 (saved values (take i nv)) → all-zero (drop at bs) ≡ true
     zero-here l n z e =
         let k : at ≡ 8 + length (saved values (take i nv)) = let q = g .at-is in omega (arith, before-long) in
         rw (e, k) (zero-behind l (saved values (take i nv)) (omega arith) z)
 
-    pub save-turn : (l : List ℕ) {bs after : List ℕ} → length l ≡ 4096 → bs ≡ splice l 8 (saved values (take i nv))
+    pub save-turn : (l : List ℕ) {bs after : List ℕ} → length l ≡ 8 * fresh-bytes → bs ≡ splice l 8 (saved values (take i nv))
         → after ≡ splice bs at (entry-bits kind (entry-len kind width') (take (entry-len kind width') (drop place values))) → after ≡ splice l 8 (saved values (take (i + 1) nv))
     save-turn l n e f =
         let own : List ℕ = entry-bits (at-nv i .kind) (at-nv i .len) (part values (at-nv i)) in

@@ -8,12 +8,12 @@ use lib.Dec.{eqb, ltb}
 use lib.ListN.{length, take, drop, replicate, length-append, length-replicate, replicate-append-replicate}
 use lib.Seq.{take-all}
 use borrow.Author.Tests.{eq-eqb, ne-eqb}
-use Rattle.bits.proofs.Numbers.{length-msb, bytes-of}
+use Rattle.bits.proofs.Numbers.{length-msb, bytes-of, bits-append}
 use Rattle.bits.specs.Bits.{msb, bits, field, packed, Bytes}
-use Rattle.block.proofs.Turns.{nv-keep, used, nv-length, nv-ends}
+use Rattle.block.proofs.Turns.{nv-keep, nv-length, nv-ends}
 use Rattle.block.proofs.Walking.{length-saved, held-all-good, saved-all-good, held-most, front-most}
 use Rattle.block.proofs.Zeros.{zero-field, and-last}
-use Rattle.block.specs.Asked.{held-front, saved-front}
+use Rattle.block.specs.Asked.{fresh-bytes, held-front, saved-front}
 use Rattle.block.specs.Block.{LAYOUT, BAG552, widths, saved, load-rows, values-good, rows-good, all-zero, block-of, good}
 use Rattle.block.specs.Saved.{nv, storable, stored, loadable, loaded}
 use Rattle.table.specs.Row.{Row}
@@ -98,31 +98,65 @@ drop-replicate (suc n) (suc m) =
     let e : m - n ≡ suc m - suc n = omega arith in
     drop-replicate n m ∙ ap (λ (k : ℕ). replicate {A = ℕ} k 0) e
 
--- written one after the other into a cleared block
-pub stored-bits : (values : List ℕ) → length values ≡ 1024
-    → splice (splice (splice (bits (replicate 512 0)) 0 (msb 4 LAYOUT)) 4 (msb 4 BAG552)) 8 (saved values nv) ≡ block-of BAG552 values nv
-unfolding block-of splice
-stored-bits values e =
-    let z : List ℕ = replicate 4096 0 in
+-- written one after the other into a fresh block of zeros
+fresh-bits : (values : List ℕ) → length values ≡ 1024
+    → splice (splice (splice (bits (replicate fresh-bytes 0)) 0 (msb 4 LAYOUT)) 4 (msb 4 BAG552)) 8 (saved values nv) ≡ (msb 4 LAYOUT ++ (msb 4 BAG552 ++ saved values nv)) ++ replicate (8 * fresh-bytes - (8 + widths nv)) 0
+unfolding splice
+fresh-bits values e =
+    let z : List ℕ = replicate (8 * fresh-bytes) 0 in
     let a : List ℕ = msb 4 LAYOUT in
     let b : List ℕ = msb 4 BAG552 in
     let s : List ℕ = saved values nv in
     let la : 0 + length a ≡ 4 = omega (arith, length-msb 4 LAYOUT) in
     let lb : length b ≡ 4 = length-msb 4 BAG552 in
     let ls : length s ≡ widths nv = length-saved values nv nv-keep e in
-    let lz : length z ≡ 4096 = length-replicate {A = ℕ} 4096 0 in
+    let lz : length z ≡ 8 * fresh-bytes = length-replicate {A = ℕ} (8 * fresh-bytes) 0 in
     let n : 0 + length (a ++ (b ++ s)) ≡ 8 + widths nv = omega (arith, length-append a (b ++ s), length-append b s) in
     let two : splice (splice z 0 a) 4 b ≡ splice z 0 (a ++ b) = ap (λ (k : ℕ). splice (splice z 0 a) k b) (sym la) ∙ splice-then z 0 a b (omega arith) in
     let lab : 0 + length (a ++ b) ≡ 8 = omega (arith, length-append a b) in
-    ap (λ (l : List ℕ). splice (splice (splice l 0 a) 4 b) 8 s) (bits-zero 512)
+    ap (λ (l : List ℕ). splice (splice (splice l 0 a) 4 b) 8 s) (bits-zero fresh-bytes)
     ∙ ap (λ (l : List ℕ). splice l 8 s) two
     ∙ ap (λ (k : ℕ). splice (splice z 0 (a ++ b)) k s) (sym lab)
-    ∙ splice-then z 0 (a ++ b) s (omega (arith, used))
+    ∙ splice-then z 0 (a ++ b) s (omega (arith, nv-ends))
     ∙ ap (splice z 0) (append-assoc a b s)
     ∙ ap (λ (k : ℕ). (a ++ (b ++ s)) ++ drop k z) n
-    ∙ ap (λ (l : List ℕ). (a ++ (b ++ s)) ++ l) (drop-replicate (8 + widths nv) 4096)
-    ∙ append-assoc a (b ++ s) (replicate (4096 - (8 + widths nv)) 0)
-    ∙ ap (λ (l : List ℕ). a ++ l) (append-assoc b s (replicate (4096 - (8 + widths nv)) 0))
+    ∙ ap (λ (l : List ℕ). (a ++ (b ++ s)) ++ l) (drop-replicate (8 + widths nv) (8 * fresh-bytes))
+
+-- the zeros behind a fresh block
+zeros-on : replicate {A = ℕ} (8 * fresh-bytes - (8 + widths nv)) 0 ++ bits (replicate (512 - fresh-bytes) 0) ≡ replicate (4096 - (8 + widths nv)) 0
+zeros-on =
+    let n : 8 * fresh-bytes - (8 + widths nv) + 8 * (512 - fresh-bytes) ≡ 4096 - (8 + widths nv) = omega (arith, nv-ends) in
+    ap (λ (l : List ℕ). replicate {A = ℕ} (8 * fresh-bytes - (8 + widths nv)) 0 ++ l) (bits-zero (512 - fresh-bytes))
+    ∙ replicate-append-replicate {A = ℕ} (8 * fresh-bytes - (8 + widths nv)) (8 * (512 - fresh-bytes)) 0
+    ∙ ap (λ (k : ℕ). replicate {A = ℕ} k 0) n
+
+stored-bits : (values fresh : List ℕ) → length values ≡ 1024 → bits fresh ≡ splice (splice (splice (bits (replicate fresh-bytes 0)) 0 (msb 4 LAYOUT)) 4 (msb 4 BAG552)) 8 (saved values nv)
+    → bits (fresh ++ replicate (512 - fresh-bytes) 0) ≡ block-of BAG552 values nv
+unfolding block-of
+stored-bits values fresh e w =
+    let a : List ℕ = msb 4 LAYOUT in
+    let b : List ℕ = msb 4 BAG552 in
+    let s : List ℕ = saved values nv in
+    let y : List ℕ = bits (replicate (512 - fresh-bytes) 0) in
+    let z : List ℕ = replicate (4096 - (8 + widths nv)) 0 in
+    bits-append fresh (replicate (512 - fresh-bytes) 0)
+    ∙ ap (λ (l : List ℕ). l ++ y) (w ∙ fresh-bits values e)
+    ∙ append-assoc (a ++ (b ++ s)) (replicate (8 * fresh-bytes - (8 + widths nv)) 0) y
+    ∙ ap (λ (l : List ℕ). (a ++ (b ++ s)) ++ l) zeros-on
+    ∙ append-assoc a (b ++ s) z
+    ∙ ap (λ (l : List ℕ). a ++ l) (append-assoc b s z)
+
+-- a fresh block over a cleared one
+pub fresh-over : (fresh : List ℕ) {n : ℕ} {cleared done : List ℕ} → n ≡ 512 → length fresh ≡ fresh-bytes → cleared ≡ replicate n 0 → done ≡ splice cleared 0 (take fresh-bytes fresh)
+    → done ≡ fresh ++ replicate (512 - fresh-bytes) 0
+unfolding splice
+fresh-over fresh n l c d =
+    let m : 0 + length fresh ≡ fresh-bytes = omega arith in
+    d
+    ∙ ap (splice _ 0) (take-all fresh-bytes fresh (omega arith))
+    ∙ ap (λ (x : List ℕ). splice x 0 fresh) (c ∙ ap (λ (k : ℕ). replicate {A = ℕ} k 0) n)
+    ∙ ap (λ (k : ℕ). fresh ++ drop {A = ℕ} k (replicate 512 0)) m
+    ∙ ap (λ (x : List ℕ). fresh ++ x) (drop-replicate fresh-bytes 512)
 
 -- 512 bytes with these bits
 bytes-with : (block : List ℕ) {bs : List ℕ} → Bytes block → length block ≡ 512 → bits block ≡ bs → block ≡ packed 512 bs
@@ -138,14 +172,14 @@ module _ (values block : List ℕ) {n : ℕ} (is-front : n ≡ held-front values
       let e : values-good values nv ≡ false = by-front-held ∙ ne-eqb n nv-count (λ q. omega arith) in
       (sym e, sym (rw e))
 
-  pub store-done : nv-count ≤ n → length values ≡ 1024 → {fresh done : List ℕ} → bits fresh ≡ splice (splice (splice (bits (replicate 512 0)) 0 (msb 4 LAYOUT)) 4 (msb 4 BAG552)) 8 (saved values (take n nv))
-      → done ≡ fresh → Bytes done → length done ≡ 512 → (true ≡ storable values) × (done ≡ stored values block)
+  pub store-done : nv-count ≤ n → length values ≡ 1024 → (fresh : List ℕ) {done : List ℕ} → bits fresh ≡ splice (splice (splice (bits (replicate fresh-bytes 0)) 0 (msb 4 LAYOUT)) 4 (msb 4 BAG552)) 8 (saved values (take n nv))
+      → done ≡ fresh ++ replicate (512 - fresh-bytes) 0 → Bytes done → length done ≡ 512 → (true ≡ storable values) × (done ≡ stored values block)
   unfolding storable stored
-  store-done h lv {fresh} {done} w d hb l =
+  store-done h lv fresh {done} w d hb l =
       let q : n ≡ nv-count = omega (arith, held-most values nv, nv-length) in
       let e : values-good values nv ≡ true = by-front-held ∙ eq-eqb n nv-count q in
       let z : take n nv ≡ nv = take-all n nv (omega (arith, nv-length)) in
-      let f : bits done ≡ block-of BAG552 values nv = ap bits d ∙ w ∙ rw z (stored-bits values lv) in
+      let f : bits done ≡ block-of BAG552 values nv = ap bits d ∙ stored-bits values fresh lv (w ∙ rw z) in
       (sym e, bytes-with done hb l f ∙ sym (rw e))
 
 -- ---- the values that are loaded
@@ -177,10 +211,10 @@ taken-most block e = rw e (most (loadable block))
 
 -- ---- a block without entries
 
-pub header-only : (cleared one two : List ℕ) → cleared ≡ replicate 512 0 → bits one ≡ splice (bits cleared) 0 (msb 4 LAYOUT) → bits two ≡ splice (bits one) 4 (msb 4 BAG552)
-    → bits two ≡ splice (splice (bits (replicate 512 0)) 0 (msb 4 LAYOUT)) 4 (msb 4 BAG552)
+pub header-only : (cleared one two : List ℕ) → cleared ≡ replicate fresh-bytes 0 → bits one ≡ splice (bits cleared) 0 (msb 4 LAYOUT) → bits two ≡ splice (bits one) 4 (msb 4 BAG552)
+    → bits two ≡ splice (splice (bits (replicate fresh-bytes 0)) 0 (msb 4 LAYOUT)) 4 (msb 4 BAG552)
 header-only cleared one two z b c = c ∙ ap (λ (x : List ℕ). splice x 4 (msb 4 BAG552)) (b ∙ ap (λ (x : List ℕ). splice (bits x) 0 (msb 4 LAYOUT)) z)
 
-pub no-entries : all-zero (drop 8 (splice (splice (bits (replicate 512 0)) 0 (msb 4 LAYOUT)) 4 (msb 4 BAG552))) ≡ true
+pub no-entries : all-zero (drop 8 (splice (splice (bits (replicate fresh-bytes 0)) 0 (msb 4 LAYOUT)) 4 (msb 4 BAG552))) ≡ true
 unfolding all-zero splice bits msb
 no-entries = refl

@@ -9,6 +9,7 @@ use Rattle.bits.specs.Bits.{field}
 use Rattle.block.specs.Block.{row-width, within}
 use Rattle.block.specs.Saved.{nv}
 use Rattle.table.specs.Row.{Row, USINT, UINT, REAL}
+use Rattle.table.specs.Rows.{nv-end}
 use Rattle.table.specs.Rule.{rank}
 use Rattle.wire.specs.Little.{number}
 
@@ -70,6 +71,11 @@ held-number values place kind = cond (leb kind REAL) (number values place (numbe
 
 unfoldable pub between : ℕ → ℕ → ℕ → Bool
 between low high x = leb low x && leb x high
+
+-- ---- the block that a store fills: its bytes up to the last entry, with eight bytes of room to add a field
+
+abbrev pub fresh-bytes : ℕ
+fresh-bytes = (nv-end + 7) / 8 + 8
 
 -- ---- a walk
 

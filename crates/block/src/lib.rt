@@ -3,21 +3,25 @@ use table::columns;
 use wire::wide;
 ghost use mathlib.Core.Path.{_≡_};
 ghost use mathlib.Core.Bool.{true, cond};
-ghost use Prim.Native.Nat.{_+_, _*_, _^_, _≤_, _<_};
+ghost use mathlib.Core.List.{_++_};
+ghost use Prim.Native.Nat.{_+_, _-_, _*_, _^_, _≤_, _<_};
 ghost use lib.ListN.{length, take, drop, replicate};
 ghost use Rattle.bits.specs.Bits.{bits, msb, field};
 ghost use Rattle.table.specs.Row.{REAL};
-ghost use Rattle.table.specs.Rows.{nv-count};
+ghost use Rattle.table.specs.Rows.{nv-count, nv-end};
 ghost use Rattle.table.specs.Rule.{rank};
 ghost use Rattle.wire.specs.Little.{little};
 ghost use Rattle.wire.specs.Splice.{splice};
 ghost use Rattle.block.specs.Block.{LAYOUT, BAG552, width as width-by, entry-bits, entry-bytes, saved, load-rows, all-zero};
 ghost use Rattle.block.specs.Saved.{nv, storable, stored, loadable, loaded};
-ghost use Rattle.block.specs.Asked.{Fields, Cuts, Places, Limits, Sized, number-len, entry-len, held-number, between, held-front, saved-front, Front};
+ghost use Rattle.block.specs.Asked.{Fields, Cuts, Places, Limits, Sized, fresh-bytes, number-len, entry-len, held-number, between, held-front, saved-front, Front};
 
 const LAYOUT: u32 = 1;
 
 const MODEL: u32 = 1;
+
+// The bytes of a block up to the last entry, and eight more: so many are read and written where a field is added.
+const FRESH: usize = (columns::NV_END + 7) / 8 + 8;
 
 // ---- A number.
 
@@ -106,7 +110,7 @@ fn save_entry(
     at: usize,
     width: usize,
 )
-    requires { ⌜ Sized kind (entry-len kind width) place × (width ≡ width-by kind (entry-len kind width)) × (length (now values) ≡ 1024) × (length (now block) ≡ 512) × (at + width ≤ 4032) × (v ≡ held-number (now values) place kind) × (kind ≤ REAL → v < 2 ^ width) × (all-zero (drop at (bits (now block))) ≡ true) ⌝ }
+    requires { ⌜ Sized kind (entry-len kind width) place × (width ≡ width-by kind (entry-len kind width)) × (length (now values) ≡ 1024) × (length (now block) ≡ fresh-bytes) × (at + width ≤ nv-end) × (v ≡ held-number (now values) place kind) × (kind ≤ REAL → v < 2 ^ width) × (all-zero (drop at (bits (now block))) ≡ true) ⌝ }
     ensures { λ _. ⌜ bits (now (block .exit)) ≡ splice (bits (now (block .entry))) at (entry-bits kind (entry-len kind width) (take (entry-len kind width) (drop place (now (values .entry))))) ⌝ }
 {
     if 5 < kind {
@@ -182,7 +186,7 @@ fn save_entries(
     values: &[u8],
     block: &mut [u8],
 ) -> usize
-    requires { ⌜ Fields (now kinds) (now ats) (now widths) × Places (now places) × Limits (now lows) (now highs) × (length (now values) ≡ 1024) × (length (now block) ≡ 512) × (all-zero (drop 8 (bits (now block))) ≡ true) ⌝ }
+    requires { ⌜ Fields (now kinds) (now ats) (now widths) × Places (now places) × Limits (now lows) (now highs) × (length (now values) ≡ 1024) × (length (now block) ≡ fresh-bytes) × (all-zero (drop 8 (bits (now block))) ≡ true) ⌝ }
     ensures { λ r. ⌜ (r ≡ held-front (now (values .entry)) nv) × (bits (now (block .exit)) ≡ splice (bits (now (block .entry))) 8 (saved (now (values .entry)) (take r nv))) ⌝ }
 {
     let mut i = 0;
@@ -283,7 +287,7 @@ fn load_by(
     0 < n
 }
 
-// Layout, model and entries into a block of zeros: how many entries went in.
+// Layout, model and entries into a fresh block of zeros: how many entries went in.
 fn fill_block(
     kinds: &[u8],
     ats: &[u16],
@@ -294,19 +298,21 @@ fn fill_block(
     values: &[u8],
     block: &mut [u8],
 ) -> usize
-    requires { ⌜ Fields (now kinds) (now ats) (now widths) × Places (now places) × Limits (now lows) (now highs) × (length (now values) ≡ 1024) × (now block ≡ replicate 512 0) ⌝ }
-    ensures { λ r. ⌜ (r ≡ held-front (now (values .entry)) nv) × (bits (now (block .exit)) ≡ splice (splice (splice (bits (replicate 512 0)) 0 (msb 4 LAYOUT)) 4 (msb 4 BAG552)) 8 (saved (now (values .entry)) (take r nv))) ⌝ }
+    requires { ⌜ Fields (now kinds) (now ats) (now widths) × Places (now places) × Limits (now lows) (now highs) × (length (now values) ≡ 1024) × (now block ≡ replicate fresh-bytes 0) ⌝ }
+    ensures { λ r. ⌜ (r ≡ held-front (now (values .entry)) nv) × (bits (now (block .exit)) ≡ splice (splice (splice (bits (replicate fresh-bytes 0)) 0 (msb 4 LAYOUT)) 4 (msb 4 BAG552)) 8 (saved (now (values .entry)) (take r nv))) ⌝ }
 {
     bits::put_field(block, 0, 4, LAYOUT);
     bits::put_field(block, 4, 4, MODEL);
     save_entries(kinds, ats, widths, places, lows, highs, values, block)
 }
 
-fn write_block(fresh: &[u8; 512], block: &mut [u8])
+// A fresh block, and zeros behind it.
+fn write_block(fresh: &[u8; FRESH], block: &mut [u8])
     requires { ⌜ length (now block) ≡ 512 ⌝ }
-    ensures { λ _. ⌜ now (block .exit) ≡ now (fresh .entry) ⌝ }
+    ensures { λ _. ⌜ now (block .exit) ≡ now (fresh .entry) ++ replicate (512 - fresh-bytes) 0 ⌝ }
 {
-    wire::copy_at(block, 0, fresh, 0, 512);
+    wire::clear(block);
+    wire::copy_at(block, 0, fresh, 0, FRESH);
 }
 
 fn store_by(
@@ -322,7 +328,7 @@ fn store_by(
     requires { ⌜ Fields (now kinds) (now ats) (now widths) × Places (now places) × Limits (now lows) (now highs) × (length (now values) ≡ 1024) × (length (now block) ≡ 512) ⌝ }
     ensures { λ r. ⌜ (r ≡ storable (now (values .entry))) × (now (block .exit) ≡ stored (now (values .entry)) (now (block .entry))) ⌝ }
 {
-    let mut fresh = [0u8; 512];
+    let mut fresh = [0u8; FRESH];
     let n = fill_block(kinds, ats, widths, places, lows, highs, values, &mut fresh);
     if n < columns::NV_ROWS {
         return false;

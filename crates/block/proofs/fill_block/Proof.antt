@@ -7,6 +7,7 @@ use lib.ListN.{length, take, drop, length-replicate}
 use borrow.Author.Needs.{needs}
 use Rattle.block.proofs.Whole.{header-only, no-entries}
 use Rattle.block.proofs.fill_block.Statement.{statement}
+use Rattle.block.specs.Asked.{fresh-bytes}
 use Rattle.block.specs.Block.{saved, all-zero}
 use Rattle.block.specs.Saved.{nv}
 use Rattle.wire.specs.Splice.{splice}
@@ -16,21 +17,21 @@ put-field-requires : tie.Need-put-field-requires
 put-field-requires c κs =
     let b = c .before .before .before .before .before .before .before .before .before in
     let a = b .args in
-    let n : length (a .block .now) ≡ 512 = ap length (b .pre .4) ∙ length-replicate {A = ℕ} 512 0 in
+    let n : length (a .block .now) ≡ fresh-bytes = ap length (b .pre .4) ∙ length-replicate {A = ℕ} fresh-bytes 0 in
     (omega (arith, n), omega arith, omega arith, omega arith)
 
 put-field-requires-2 : tie.Need-put-field-requires-2
 put-field-requires-2 c κs =
     let b = c .before .before .before .before .before .before .before .before .before .before .before .before .before in
     let a = b .args in
-    let n : length (a .block .now) ≡ 512 = ap length (b .pre .4) ∙ length-replicate {A = ℕ} 512 0 in
+    let n : length (a .block .now) ≡ fresh-bytes = ap length (b .pre .4) ∙ length-replicate {A = ℕ} fresh-bytes 0 in
     (omega (arith, n, c .before .before .before .put-field .kept .0), omega arith, omega arith, omega arith)
 
 save-entries-requires : tie.Need-save-entries-requires
 save-entries-requires c κs =
     let b = c .before .before .before .before .before .before .before .before .before .before .before .before .before .before .before .before .before in
     let a = b .args in
-    let n : length (a .block .now) ≡ 512 = ap length (b .pre .4) ∙ length-replicate {A = ℕ} 512 0 in
+    let n : length (a .block .now) ≡ fresh-bytes = ap length (b .pre .4) ∙ length-replicate {A = ℕ} fresh-bytes 0 in
     (b .pre .0, b .pre .1, b .pre .2, b .pre .3, c .before .before .before .put-field2 .kept .0 ∙ c .before .before .before .before .before .before .before .put-field .kept .0 ∙ n, ap (λ (x : List ℕ). all-zero (drop 8 x)) (header-only (a .block .now) _ _ (b .pre .4) (c .before .before .before .before .before .before .before .put-field .ensures) (c .before .before .before .put-field2 .ensures)) ∙ no-entries)
 
 same-length : tie.Need-same-length

@@ -1,6 +1,6 @@
 -- `save_entries` meets its contract. Invariant: what stands before entry i is good and saved. Assumes nothing.
 use mathlib.Core.Path.{_≡_, _∙_, sym, ap, refl}
-use Prim.Native.Nat.{_+_, _-_, _≤_}
+use Prim.Native.Nat.{_+_, _-_, _*_, _≤_}
 use native.Mathlib.Omega.{arith}
 use lib.ListN.{length, take, drop, getD}
 use borrow.Author.Tests.{not-true, not-false}
@@ -9,7 +9,7 @@ use Rattle.bits.specs.Bits.{bits, Bytes}
 use Rattle.block.proofs.Entries.{number-inside}
 use Rattle.block.proofs.Turns.{fields-long, places-long, limits-long, place-at, here, room, sized-here, width-here, held-within, held-begin, held-on, held-stop, held-end, fits-here, zero-here, save-begin, save-turn}
 use Rattle.block.proofs.save_entries.Statement.{statement}
-use Rattle.block.specs.Asked.{between, held-front}
+use Rattle.block.specs.Asked.{fresh-bytes, between, held-front}
 use Rattle.block.specs.Block.{saved}
 use Rattle.block.specs.Saved.{nv}
 use Rattle.table.specs.Rows.{nv-count}
@@ -17,7 +17,7 @@ use Rattle.wire.specs.Splice.{splice}
 use Rattle.block.proofs.save_entries.Tie as tie
 
 abbrev Inv-loop : tie.InvT-loop
-Inv-loop kinds ats widths places lows highs values block₀ i₀ block i = (i ≤ nv-count) × (length block ≡ 512) × (held-front values nv ≡ i + held-front values (drop i nv)) × (bits block ≡ splice (bits block₀) 8 (saved values (take i nv)))
+Inv-loop kinds ats widths places lows highs values block₀ i₀ block i = (i ≤ nv-count) × (length block ≡ fresh-bytes) × (held-front values nv ≡ i + held-front values (drop i nv)) × (bits block ≡ splice (bits block₀) 8 (saved values (take i nv)))
 
 abbrev μ-loop : tie.MeasureT-loop
 μ-loop kinds ats widths places lows highs values block₀ i₀ block i = nv-count - i
@@ -133,7 +133,7 @@ save-entry-requires c κs =
     let p = c .before .before .before .before .before .before .before .before .before .before .before .pair-to-usize .ensures .0 ∙ place-at (a .places .now) (b .pre .1) (l .i) h in
     let y : Bytes (a .values .now) = λ k. (c .before .before .before .before .before .before .before .before .before .before .before .before .before .before .before .before .before .shared-slice-known7 .given k) .fits in
     let s = c .before .before .before .before .before .before .is-between .ensures ∙ ap (between (getD (a .lows .now) (l .i) 0) (getD (a .highs .now) (l .i) 0)) (c .before .before .before .before .before .before .before .before .before .rank-of .ensures) in
-    let n : length (bits (a .block .now)) ≡ 4096 = omega (arith, length-bits (a .block .now)) in (
+    let n : length (bits (a .block .now)) ≡ 8 * fresh-bytes = omega (arith, length-bits (a .block .now)) in (
       sized-here g p,
       width-here g,
       b .pre .3,
@@ -160,7 +160,7 @@ loop-again c =
     let p = c .before .before .before .before .before .before .before .before .before .before .before .before .before .before .pair-to-usize .ensures .0 ∙ place-at (a .places .now) (b .pre .1) (l .i) h in
     let y : Bytes (a .values .now) = λ k. (c .before .before .before .before .before .before .before .before .before .before .before .before .before .before .before .before .before .before .before .before .shared-slice-known7 .given k) .fits in
     let s = c .before .before .before .before .before .before .before .before .before .is-between .ensures ∙ ap (between (getD (a .lows .now) (l .i) 0) (getD (a .highs .now) (l .i) 0)) (c .before .before .before .before .before .before .before .before .before .before .before .before .rank-of .ensures) in
-    let n : length (bits (a .block .now)) ≡ 4096 = omega (arith, length-bits (a .block .now)) in (
+    let n : length (bits (a .block .now)) ≡ 8 * fresh-bytes = omega (arith, length-bits (a .block .now)) in (
       omega arith,
       c .before .before .save-entry .kept .1 .1 .1 .1 .0 ∙ l .inv .1,
       held-on g (a .values .now) (held-within g (b .pre .2) (c .before .before .before .before .before .before .before .before .before .before .before .before .before .held-number .result) s (not-false (c .before .before .before .before .before .before .before .before .before .is-between .result) (c .before .before .before .before .before .before .before .before .if1 .left)) (a .values .now) p y (c .before .before .before .before .before .before .before .before .before .before .before .before .before .held-number .ensures)) (l .inv .2),
