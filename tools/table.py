@@ -6,8 +6,9 @@ holds the rows to the table's rule (and names the row that breaks it, which the 
 
     docs/object-table.md           the column Place
     crates/table/specs/Rows.antt   the rows, one line each
-    crates/table/src/columns.rt    the same as flat constant arrays
+    crates/table/src/columns.rt    the same as flat constant arrays, and arrays of the NV rows alone
     crates/table/proofs/Pairs.antt the pairs of limits that those arrays share
+    crates/table/proofs/DefaultWords.antt the words that make the defaults out of zeros
     crates/table/specs/Places.antt the places that have names
     crates/table/src/place.rt      the same as constants
     crates/rows/stdout             what the program `rows` must print
@@ -331,6 +332,7 @@ def columns_rt(rows, end):
 // read is laid out on the stack, so columns are narrow. WORD_PLACE and WORD have the words that make the defaults out of zeros.
 // NV_.. has the NV rows alone: the bit of the saved block at which each entry begins (and the last ends), and its limits as places in
 // the order of its type.
+// NV_CUT has the bits that are looked at as a number: of a string the first 32, which its NV_LOW and NV_HIGH do not refuse.
 pub const ROWS: usize = %d;
 
 pub const NV_ROWS: usize = %d;

@@ -1,22 +1,45 @@
--- Four whole bytes, read and stored with no loop, are a field of 32 bits. Assumes nothing.
+-- Four whole bytes, as a little-endian word that is turned, are a field of 32 bits. Assumes nothing.
 use mathlib.Core.List.{List, _++_}
-use mathlib.Core.Path.{_≡_, sym, _∙_}
+use mathlib.Core.Path.{_≡_, refl, sym, ap, _∙_}
 use Prim.Native.Nat.{ℕ, _+_, _*_, _/_, _%_, _<_, _≤_}
 use native.Mathlib.Nat.{div-div-eq-div-mul}
 use native.Mathlib.Omega.{arith}
 use lib.ListN.{length, getD, set, length-set, length-append}
 use Rattle.bits.proofs.Numbers.{length-bits, length-msb, msb-split}
 use Rattle.bits.proofs.Parts.{field-more, byte-get, byte-put}
-use Rattle.bits.specs.Bits.{msb, bits, field}
+use Rattle.bits.specs.Bits.{msb, bits, field, Bytes}
 use Rattle.wire.proofs.SpliceLaws.{splice-then}
+use Rattle.wire.proofs.Stores.{four-bytes as bytes-of-word, four-stores as stores-of-word}
 use Rattle.wire.specs.Splice.{splice}
+use Rattle.wire.specs.Little.{little, number}
+
+-- ---- the bytes of a word that is turned
+
+-- four digits of a little-endian word
+module _ (a b c d w : ℕ) (la : a < 256) (lb : b < 256) (lc : c < 256) (ld : d < 256) (e : w ≡ a + b * 256 + c * 65536 + d * 16777216) where
+  digit-0 : w % 256 ≡ a
+  digit-0 = omega arith
+
+  digit-1 : w / 256 % 256 ≡ b
+  digit-1 = omega arith
+
+  digit-2 : w / 65536 % 256 ≡ c
+  digit-2 = omega arith
+
+  digit-3 : w / 16777216 ≡ d
+  digit-3 = omega arith
+
+  digit-3-low : w / 16777216 % 256 ≡ d
+  digit-3-low = omega arith
+
+-- ---- reading
 
 module _ (s : List ℕ) (at : ℕ) (room : at + 4 ≤ length s) where
   -- the byte k places on
   byte : (k p x : ℕ) → k < 4 → 8 * (at + k) ≡ p → x ≡ getD s (at + k) 0 → x < 256 → field (bits s) p 8 ≡ x
   byte k p x h e g b = rw e at (byte-get s (at + k) (omega arith) (omega arith)) ∙ sym g
 
-  pub four-bytes : (a b c d : ℕ) → a ≡ getD s at 0 → a < 256 → b ≡ getD s (at + 1) 0 → b < 256 → c ≡ getD s (at + 2) 0 → c < 256 → d ≡ getD s (at + 3) 0 → d < 256
+  four-bytes : (a b c d : ℕ) → a ≡ getD s at 0 → a < 256 → b ≡ getD s (at + 1) 0 → b < 256 → c ≡ getD s (at + 2) 0 → c < 256 → d ≡ getD s (at + 3) 0 → d < 256
       → a * 16777216 + b * 65536 + c * 256 + d ≡ field (bits s) (8 * at) 32
   four-bytes a b c d ea la eb lb ec lc ed ld =
       let n = length-bits s in
@@ -27,6 +50,19 @@ module _ (s : List ℕ) (at : ℕ) (room : at + 4 ≤ length s) where
       let fd : field (bits s) (p + 8 + 8 + 8) 8 ≡ d = byte 3 (p + 8 + 8 + 8) d (omega arith) (omega arith) ed ld in
       sym (field-more (bits s) p 8 24 (omega arith) ∙ rw (fa, field-more (bits s) (p + 8) 8 16 (omega arith), fb, field-more (bits s) (p + 8 + 8) 8 8 (omega arith), fc, fd) (omega arith))
 
+  pub word-turned : Bytes s → (w r : ℕ) → w ≡ number s at 4 → r ≡ w % 256 * 16777216 + w / 256 % 256 * 65536 + w / 65536 % 256 * 256 + w / 16777216 → r ≡ field (bits s) (8 * at) 32
+  word-turned h w r e f =
+      let a : ℕ = getD s at 0 in
+      let b : ℕ = getD s (at + 1) 0 in
+      let c : ℕ = getD s (at + 2) 0 in
+      let d : ℕ = getD s (at + 3) 0 in
+      let g : w ≡ a + b * 256 + c * 65536 + d * 16777216 = e ∙ bytes-of-word s at in
+      f
+      ∙ rw (digit-0 a b c d w (h at) (h (at + 1)) (h (at + 2)) (h (at + 3)) g, digit-1 a b c d w (h at) (h (at + 1)) (h (at + 2)) (h (at + 3)) g, digit-2 a b c d w (h at) (h (at + 1)) (h (at + 2)) (h (at + 3)) g, digit-3 a b c d w (h at) (h (at + 1)) (h (at + 2)) (h (at + 3)) g)
+      (four-bytes a b c d refl (h at) refl (h (at + 1)) refl (h (at + 2)) refl (h (at + 3)))
+
+-- ---- storing
+
 -- one part behind the other
 pub splice-behind : (l : List ℕ) (at : ℕ) (xs ys : List ℕ) (k : ℕ) → at + length xs ≡ k → k + length ys ≤ length l → splice (splice l at xs) k ys ≡ splice l at (xs ++ ys)
 splice-behind l at xs ys k e h = rw e at (splice-then l at xs ys (omega arith))
@@ -34,7 +70,7 @@ splice-behind l at xs ys k e h = rw e at (splice-then l at xs ys (omega arith))
 msb-32 : (v : ℕ) → msb 32 v ≡ ((msb 8 (v / 16777216) ++ msb 8 (v / 65536 % 256)) ++ msb 8 (v / 256 % 256)) ++ msb 8 (v % 256)
 msb-32 v = rw (msb-split 24 8 v, msb-split 16 8 (v / 256), msb-split 8 8 (v / 256 / 256), div-div-eq-div-mul v 256 256, div-div-eq-div-mul v 65536 256)
 
-pub four-stores : (s : List ℕ) (at v : ℕ) → at + 4 ≤ length s
+four-stores : (s : List ℕ) (at v : ℕ) → at + 4 ≤ length s
     → bits (set (set (set (set s at (v / 16777216)) (at + 1) (v / 65536 % 256)) (at + 2) (v / 256 % 256)) (at + 3) (v % 256)) ≡ splice (bits s) (8 * at) (msb 32 v)
 four-stores s at v h =
     let a : List ℕ = msb 8 (v / 16777216) in
@@ -56,3 +92,21 @@ four-stores s at v h =
     let abc : length ((a ++ b) ++ c) ≡ 24 = omega (arith, length-append (a ++ b) c) in
     byte-put s3 (at + 3) (v % 256) (omega arith)
     ∙ rw (byte-put s2 (at + 2) (v / 256 % 256) (omega arith), byte-put s1 (at + 1) (v / 65536 % 256) (omega arith), byte-put s at (v / 16777216) (omega arith), splice-behind (bits s) (8 * at) a b (8 * (at + 1)) (omega arith) (omega arith), splice-behind (bits s) (8 * at) (a ++ b) c (8 * (at + 2)) (omega arith) (omega arith), splice-behind (bits s) (8 * at) ((a ++ b) ++ c) d (8 * (at + 3)) (omega arith) (omega arith), msb-32 v)
+
+pub turned-put : (s t : List ℕ) (at v w : ℕ) → at + 4 ≤ length s → v < 4294967296
+    → w ≡ v % 256 * 16777216 + v / 256 % 256 * 65536 + v / 65536 % 256 * 256 + v / 16777216 → t ≡ splice s at (little 4 w)
+    → bits t ≡ splice (bits s) (8 * at) (msb 32 v)
+turned-put s t at v w room hv e f =
+    let a : ℕ = v / 16777216 in
+    let b : ℕ = v / 65536 % 256 in
+    let c : ℕ = v / 256 % 256 in
+    let d : ℕ = v % 256 in
+    let la : a < 256 = omega arith in
+    let lb : b < 256 = omega arith in
+    let lc : c < 256 = omega arith in
+    let ld : d < 256 = omega arith in
+    let g : w ≡ a + b * 256 + c * 65536 + d * 16777216 = e ∙ omega arith in
+    let k : splice s at (little 4 w) ≡ set (set (set (set s at a) (at + 1) b) (at + 2) c) (at + 3) d =
+    sym (stores-of-word s at w room)
+    ∙ rw (digit-0 a b c d w la lb lc ld g, digit-1 a b c d w la lb lc ld g, digit-2 a b c d w la lb lc ld g, digit-3-low a b c d w la lb lc ld g) in
+    ap bits (f ∙ k) ∙ four-stores s at v room

@@ -92,27 +92,27 @@ pub fn add_field(s: &mut [u8], at: usize, width: usize, value: u32)
     spread(s, first, first + 8, x + shifted);
 }
 
-// ---- A field of four whole bytes, with no loop.
+// ---- A field of four whole bytes: the little-endian word of them, turned.
+
+// The four bytes of a word in the other order.
+fn turned(v: u32) -> u32
+    ensures { λ r. ⌜ r ≡ v % 256 * 16777216 + v / 256 % 256 * 65536 + v / 65536 % 256 * 256 + v / 16777216 ⌝ }
+{
+    v % 256 * 16777216 + v / 256 % 256 * 65536 + v / 65536 % 256 * 256 + v / 16777216
+}
 
 pub fn word_at(s: &[u8], at: usize) -> u32
     requires { ⌜ at + 4 ≤ length (now s) ⌝ }
     ensures { λ r. ⌜ r ≡ field (bits (now (s .entry))) (8 * at) 32 ⌝ }
 {
-    let a = wide::to_u32(s[at]);
-    let b = wide::to_u32(s[at + 1]);
-    let c = wide::to_u32(s[at + 2]);
-    let d = wide::to_u32(s[at + 3]);
-    a * 16777216 + b * 65536 + c * 256 + d
+    turned(wire::word_at(s, at))
 }
 
 pub fn put_word(s: &mut [u8], at: usize, v: u32)
     requires { ⌜ at + 4 ≤ length (now s) ⌝ }
     ensures { λ _. ⌜ bits (now (s .exit)) ≡ splice (bits (now (s .entry))) (8 * at) (msb 32 v) ⌝ }
 {
-    s[at] = (v / 16777216) as u8;
-    s[at + 1] = (v / 65536 % 256) as u8;
-    s[at + 2] = (v / 256 % 256) as u8;
-    s[at + 3] = (v % 256) as u8;
+    wire::put_word(s, at, turned(v));
 }
 
 // ---- Bytes at any bit: copied where that is a whole byte's first, else byte by byte.

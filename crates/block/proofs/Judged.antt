@@ -11,7 +11,7 @@ use Rattle.bits.proofs.Parts.{field-fits}
 use Rattle.bits.specs.Bits.{bits, field, Bytes}
 use Rattle.block.proofs.Entries.{number-or-string, no-code, number-narrow, within-string, width-some, width-most}
 use Rattle.block.proofs.Kept.{Kept}
-use Rattle.block.specs.Asked.{cut, lowest, highest, between, held-number, number-len}
+use Rattle.block.specs.Asked.{cut, lowest, highest, between, held-number}
 use Rattle.block.specs.Block.{row-width, within}
 use Rattle.entry.proofs.LimitsLaws.{rank-within, within-rank, within-number}
 use Rattle.entry.proofs.RowLaws.{judgeable, between-finite}

@@ -17,7 +17,7 @@ use Rattle.block.proofs.Kept.{Kept, kept}
 use Rattle.block.proofs.Tables.{table-keeps, table-used}
 use Rattle.block.proofs.Walking.{Keeps, keeps-at, keeps-take, fits, part-long, length-saved, length-starts, length-numbers, widths-next, widths-all, saved-next, load-next, number-here, held-next, saved-front-next, start-here, start-next}
 use Rattle.block.proofs.Zeros.{zero-behind}
-use Rattle.block.specs.Asked.{starts, Fields, cut, Cuts, Places, lowest, highest, Limits, Sized, fresh-bytes, entry-len, held-number, between, held-front, saved-front, saved-numbers, Front}
+use Rattle.block.specs.Asked.{Fields, cut, Cuts, Places, lowest, highest, Limits, Sized, fresh-bytes, entry-len, held-number, between, held-front, saved-front, saved-numbers, Front}
 use Rattle.block.specs.Block.{width, row-width, part, entry-bits, entry-bytes, within, nv-rows, widths, saved, load-rows, all-zero}
 use Rattle.block.specs.Saved.{nv}
 use Rattle.table.proofs.Table.{rows-pass, row-rule}

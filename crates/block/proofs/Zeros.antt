@@ -10,7 +10,7 @@ use lib.ListN.{length, take, drop, getD, replicate, take-append-drop, drop-of-le
 use lib.Seq.{drop-cons, drop-drop, drop-at, length-take-le}
 use borrow.Author.Tests.{eq-eqb, ne-eqb, eqb-true}
 use Rattle.bits.proofs.Copying.{bits-drop}
-use Rattle.bits.proofs.Numbers.{length-msb, num-msb}
+use Rattle.bits.proofs.Numbers.{num-msb}
 use Rattle.bits.specs.Bits.{msb, bits, num-from, num, field, Bytes}
 use Rattle.block.proofs.Walking.{and-true}
 use Rattle.block.specs.Block.{all-zero}

@@ -13,7 +13,7 @@ use Rattle.table.specs.Find.{find-row}
 use Rattle.table.specs.Rule.{pick}
 use Rattle.gauge.specs.Gates.{read-gate}
 use Rattle.gauge.specs.Memory.{memory-of}
-use Rattle.gauge.specs.Whole.{value-of, commit-row}
+use Rattle.gauge.specs.Whole.{commit-row}
 use Rattle.gauge.specs.declared.gate.Gate.{Gate}
 use Rattle.gauge.specs.declared.gate.Gate.the-variants.{Open, Shut}
 use Rattle.sdo.specs.declared.Key.{Key}
@@ -21,7 +21,7 @@ use Rattle.sdo.specs.declared.Transfer.{Transfer}
 use Rattle.sdo.specs.Eight.{answerOf}
 use Rattle.sdo.specs.Lines.{short}
 use Rattle.sdo.specs.Records.{allZero, keyAt, counts}
-use Rattle.sdo.specs.Replies.{Act, Done, Commit, Reply, ending, going, committing, refusal, is-reading, givenReply, nextPartReply, filled, openReadReply, openWriteBy, openWriteReply}
+use Rattle.sdo.specs.Replies.{Act, Done, Reply, ending, going, committing, refusal, is-reading, givenReply, nextPartReply, openReadReply, openWriteBy, openWriteReply}
 use Rattle.board.specs.State.{record-bytes}
 use Rattle.board.specs.Calls.{settled}
 use Rattle.board.specs.Answering.{through, open-read, concluded, act-by, Kept, kept, replied, Told, told, told-by, answered}

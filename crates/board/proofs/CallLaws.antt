@@ -1,6 +1,6 @@
 -- The calls by cases, as the code takes them: each law takes what the calls ensure. Assumes nothing.
 use mathlib.Core.Path.{_≡_, refl, sym, ap, _∙_}
-use mathlib.Core.Bool.{Bool, true, false, cond, _&&_}
+use mathlib.Core.Bool.{true, false, cond}
 use mathlib.Core.List.{List, [], _∷_}
 use Prim.Native.Nat.{ℕ, _+_, _<_, _≤_}
 use native.Mathlib.Omega.{arith}
@@ -14,9 +14,8 @@ use Rattle.wire.proofs.SpliceLaws.{part-length}
 use Rattle.trip.specs.declared.Trips.{Trips}
 use Rattle.sample.specs.Sample.{values-after, trips-after}
 use Rattle.sample.specs.Image.{image-of}
-use Rattle.gauge.specs.Memory.{Store, memory-of, all-off}
+use Rattle.gauge.specs.Memory.{Store, memory-of}
 use Rattle.gauge.specs.PowerUp.{fresh-values}
-use Rattle.sdo.specs.declared.Transfer.{Transfer}
 use Rattle.sdo.specs.declared.Message.{Message}
 use Rattle.sdo.specs.declared.Message.the-variants.{SendPart, WriteSized, WriteOwn, OpenAnnounced, OpenUnsaid, OpenRead, NextPart, GiveUp, Unknown}
 use Rattle.sdo.specs.Eight.{messageOf}
@@ -24,7 +23,7 @@ use Rattle.sdo.specs.Replies.{Reply}
 use Rattle.sdo.specs.Records.{Spoken, allZero, speak}
 use Rattle.sdo.proofs.RecordLaws.{Whole}
 use Rattle.board.specs.State.{record-place, record-at, record-bytes, trips-place, trips-at, trips-bytes}
-use Rattle.board.specs.Gauge.{Sample, sampled, bag552}
+use Rattle.board.specs.Gauge.{sampled, bag552}
 use Rattle.board.specs.Answering.{is-abort, reply-to, Acted, act-by, spoken-by, Told, told, told-by, answered}
 use Rattle.board.specs.Calls.{Lent, store-of, sized, called, number-by, dropped, settled, served, message-call, powered, power-up-call, fed, fed-by, sample-call, shown, image-call}
 use Rattle.board.proofs.Spoken.{speak-is, given-up}

@@ -1,11 +1,10 @@
 -- What an open gate says, and the replies through gates. Assumes nothing.
-use mathlib.Core.Path.{_≡_, refl, sym, ap, _∙_}
+use mathlib.Core.Path.{_≡_, refl, sym, _∙_}
 use mathlib.Core.Bool.{Bool, true, false, cond}
 use mathlib.Core.List.{List}
-use Prim.Native.Nat.{ℕ, _<_, _≤_}
+use Prim.Native.Nat.{ℕ, _<_}
 use native.Mathlib.Omega.{arith}
 use lib.Dec.{eqb}
-use lib.ListN.{length}
 use borrow.Author.Tests.{eqb-false}
 use Rattle.order.specs.Talk.{refused}
 use Rattle.table.specs.Rows.{at-row, row-count}
@@ -13,7 +12,7 @@ use Rattle.table.specs.Find.{find-row}
 use Rattle.table.specs.declared.Found.{Found}
 use Rattle.table.specs.declared.Found.the-variants.{At, NoIndex, NoSub}
 use Rattle.table.proofs.Table.{find-at}
-use Rattle.gauge.specs.Gates.{gate, read-gate, write-gate}
+use Rattle.gauge.specs.Gates.{gate}
 use Rattle.gauge.specs.Whole.{value-of}
 use Rattle.gauge.specs.declared.gate.Gate.{Gate}
 use Rattle.gauge.specs.declared.gate.Gate.the-variants.{Open, Shut}

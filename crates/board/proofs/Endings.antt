@@ -1,6 +1,6 @@
 -- How a whole write ends the transfer, by what the gauge's commit ensures. Assumes nothing.
-use mathlib.Core.Path.{_≡_, refl, sym, ap, _∙_}
-use mathlib.Core.Bool.{Bool, true, false}
+use mathlib.Core.Path.{_≡_, refl, ap, ap₂, _∙_}
+use mathlib.Core.Bool.{true, false}
 use mathlib.Core.List.{List}
 use Prim.Native.Nat.{ℕ, _<_, _≤_}
 use native.Mathlib.Omega.{arith}
@@ -9,21 +9,16 @@ use Rattle.order.specs.Talk.{Outcome, stored, restarted, declined, refused}
 use Rattle.table.specs.Rows.{at-row, row-count}
 use Rattle.table.proofs.Table.{row-rule}
 use Rattle.gauge.specs.Memory.{Memory, memory-of}
-use Rattle.gauge.specs.Whole.{commit-row}
 use Rattle.gauge.specs.Endings.{Left, left-by}
 use Rattle.gauge.specs.Endings as gauge
 use Rattle.gauge.specs.declared.commit.Ending.{Ending}
 use Rattle.gauge.specs.declared.commit.Ending.the-variants.{Accepted, Restarted, Refused}
 use Rattle.sdo.specs.Eight.{answerOf}
 use Rattle.sdo.specs.Records.{allZero, keyAt}
-use Rattle.sdo.specs.Replies.{ending}
-use Rattle.board.specs.Calls.{dropped, settled}
-use Rattle.board.specs.Answering.{Acted, acted, concluded, Kept, kept, replied, told, told-by}
+use Rattle.board.specs.Calls.{settled}
+use Rattle.board.specs.Answering.{acted, concluded, told, told-by, state-by, eight-by}
 
 module _ (m : Memory) (row : ℕ) (eight v b : List ℕ) {e : Ending} where
-  ended-as : (x : Ending) (o : Outcome Memory) → gauge.left e v b ≡ left-by m o → e ≡ x → gauge.left x v b ≡ left-by m o
-  ended-as x o q i = rw i at q
-
   accepted-end : (o : Outcome Memory) → gauge.left e v b ≡ left-by m o → e ≡ Accepted → acted (memory-of v b) allZero false eight ≡ concluded m row eight o
   unfolding concluded left-by
   accepted-end (stored n) q i = rw (ap (λ (l : Left). l .values) q, ap (λ (l : Left). l .block) q)
@@ -45,20 +40,13 @@ module _ (m : Memory) (row : ℕ) (eight v b : List ℕ) {e : Ending} where
       let z : code ≡ c = cc (ap (λ (l : Left). l .ending) q) in
       rw (z, ap (λ (l : Left). l .values) q, ap (λ (l : Left). l .block) q)
 
-  -- and what it leaves in the state
-  module _ (at : ℕ) (s : List ℕ) (o : Outcome Memory) (ended-by : gauge.left e v b ≡ left-by m o) where
-    pub accepted-told : {s′ x : List ℕ} → e ≡ Accepted → kept s′ x ≡ replied at s (ending eight) → told v b s′ x ≡ told-by at s (concluded m row eight o)
-    unfolding replied told-by settled
-    accepted-told i k = ap (λ (q : Kept). told v b (q .state) (q .eight)) k ∙ ap (told-by at s) (accepted-end o ended-by i)
-
-    pub restarted-told : {s′ : List ℕ} → e ≡ Restarted → s′ ≡ dropped s → told v b s′ eight ≡ told-by at s (concluded m row eight o)
-    unfolding told-by settled
-    restarted-told i d = ap (λ (q : List ℕ). told v b q eight) d ∙ ap (told-by at s) (restarted-end o ended-by i)
-
-    pub refused-told : {s′ x : List ℕ} (code : ℕ) → e ≡ Refused code → kept s′ x ≡ replied at s (ending (answerOf (refused (keyAt row) code)))
-        → told v b s′ x ≡ told-by at s (concluded m row eight o)
-    unfolding replied told-by settled
-    refused-told code i k = ap (λ (q : Kept). told v b (q .state) (q .eight)) k ∙ ap (told-by at s) (refused-end o code ended-by i)
+-- and what it leaves in the state, with the answer
+pub concluded-told : (m : Memory) (row : ℕ) (eight v b : List ℕ) (at : ℕ) (s : List ℕ) (o : Outcome Memory) (e : Ending) {s′ x : List ℕ}
+    → gauge.left e v b ≡ left-by m o → s′ ≡ state-by at e s → x ≡ eight-by row eight e → told v b s′ x ≡ told-by at s (concluded m row eight o)
+unfolding told-by settled state-by eight-by
+concluded-told m row eight v b at s o Accepted q es ex = ap₂ (told v b) es ex ∙ ap (told-by at s) (accepted-end m row eight v b o q refl)
+concluded-told m row eight v b at s o Restarted q es ex = ap₂ (told v b) es ex ∙ ap (told-by at s) (restarted-end m row eight v b o q refl)
+concluded-told m row eight v b at s o (Refused code) q es ex = ap₂ (told v b) es ex ∙ ap (told-by at s) (refused-end m row eight v b o code q refl)
 
 -- the held bytes of a whole value
 module _ (row : ℕ) {len : ℕ} (there : row < row-count) (whole : len ≡ at-row row .len) where

@@ -1,21 +1,20 @@
 -- The state bytes as the code reads and writes them: each law takes what the calls ensure. Assumes nothing.
-use mathlib.Core.Path.{_≡_, refl, sym, ap, _∙_}
-use mathlib.Core.Bool.{Bool, cond}
-use mathlib.Core.List.{List, _++_, append-assoc, append-nil}
+use mathlib.Core.Path.{_≡_, refl, ap}
+use mathlib.Core.Bool.{Bool}
+use mathlib.Core.List.{List, _++_, append-assoc}
 use Prim.Native.Nat.{ℕ, _+_, _≤_}
 use native.Mathlib.Omega.{arith}
-use lib.ListN.{length, take, drop, replicate, length-append, length-replicate}
+use lib.ListN.{length, take, drop, replicate, length-append}
 use lib.Seq.{take-all}
 use Rattle.wire.specs.Splice.{splice}
 use Rattle.wire.specs.Little.{little, number}
 use Rattle.wire.proofs.LittleLaws.{length-little}
-use Rattle.wire.proofs.SpliceLaws.{splice-whole, splice-then, length-splice, part-length}
-use Rattle.trip.specs.declared.On.{On}
+use Rattle.wire.proofs.SpliceLaws.{splice-whole, part-length}
 use Rattle.trip.specs.declared.Trips.{Trips}
 use Rattle.sdo.specs.declared.Direction.{Direction}
 use Rattle.sdo.specs.declared.Transfer.{Transfer}
 use Rattle.sdo.specs.Records.{allZero}
-use Rattle.board.specs.State.{direction-of, direction-byte, bit, is-on, record-at, record-tail, record-bytes, trips-place, trips-at, trips-bytes}
+use Rattle.board.specs.State.{direction-of, direction-byte, bit, is-on, record-at, record-tail, record-bytes, trips-place, trips-bytes}
 use Rattle.board.proofs.InARow.{then, four-in-a-row}
 
 pub record-read : (s : List ℕ) (at : ℕ) {held : List ℕ} {row len place : ℕ} {d : Direction} {toggle : Bool} → at + 70 ≤ length s

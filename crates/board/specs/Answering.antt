@@ -15,6 +15,8 @@ use Rattle.gauge.specs.Memory.{Memory, Store, memory-of, all-off}
 use Rattle.gauge.specs.Whole.{value-of, commit-row}
 use Rattle.gauge.specs.declared.gate.Gate.{Gate}
 use Rattle.gauge.specs.declared.gate.Gate.the-variants.{Open, Shut}
+use Rattle.gauge.specs.declared.commit.Ending.{Ending}
+use Rattle.gauge.specs.declared.commit.Ending.the-variants.{Accepted, Restarted, Refused}
 use Rattle.sdo.specs.declared.Key.{Key}
 use Rattle.sdo.specs.declared.Transfer.{Transfer}
 use Rattle.sdo.specs.declared.Message.{Message}
@@ -109,6 +111,17 @@ told-by at state a = told (a .values) (a .block) (settled at (a .next) (a .reset
 
 abbrev pub answered : ℕ → List ℕ → List ℕ → List ℕ → Reply → Told
 answered at values block state r = told-by at state (act-by (memory-of values block) r (r .act))
+
+-- a whole write ends the transfer: what it leaves in the state, and the answer, `eight` being the one that says yes
+unfoldable pub state-by : ℕ → Ending → List ℕ → List ℕ
+state-by at Accepted state = settled at allZero false state
+state-by at Restarted state = settled at allZero true state
+state-by at (Refused code) state = settled at allZero false state
+
+unfoldable pub eight-by : ℕ → List ℕ → Ending → List ℕ
+eight-by row eight Accepted = eight
+eight-by row eight Restarted = eight
+eight-by row eight (Refused code) = answerOf (refused (keyAt row) code)
 
 -- what they are lent: the memory, the state and a record's place in it
 pub record Ready (at : ℕ) (values block state : List ℕ) : Type 0 where

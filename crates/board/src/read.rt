@@ -55,8 +55,9 @@ fn open_row(values: &[u8], state: &mut [u8], at: usize, k: Key, row: usize) -> [
     requires { ⌜ (length (now values) ≡ 1024) × (at + 70 ≤ length (now state)) × (row < row-count) × (k ≡ keyAt row) ⌝ }
     ensures { λ r. ⌜ kept (now (state .exit)) r ≡ replied at (now (state .entry)) (open-read (now (values .entry)) row) ⌝ }
 {
-    let len = table::field::len_of(row);
-    let held = gauge::read::value_of(values, row, k.index, len);
+    let kind = table::field::kind_of(row);
+    let len = table::field::len_by(row, kind);
+    let held = gauge::read::value_of(values, row, k.index, kind, len);
     if answer::is_short(len) {
         return reply::ended(state, at, answer::opened_short(k, &held, len));
     }

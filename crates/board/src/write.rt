@@ -17,35 +17,54 @@ ghost use Rattle.order.specs.Talk.{announced, unsaid, own};
 ghost use Rattle.table.specs.Rows.{row-count, at-row};
 ghost use Rattle.table.specs.Find.{find-row};
 ghost use Rattle.gauge.specs.Gates.{write-gate};
+ghost use Rattle.gauge.specs.Endings.{left, left-by};
 ghost use Rattle.gauge.specs.Memory.{memory-of};
 ghost use Rattle.gauge.specs.Whole.{commit-row};
 ghost use Rattle.sdo.specs.Eight.{messageOf};
 ghost use Rattle.sdo.specs.Records.{keyAt};
 ghost use Rattle.sdo.specs.Replies.{takenReply, sendPartReply, openWriteReply, valueReply, expeditedReply};
 ghost use Rattle.board.specs.State.{record-at};
-ghost use Rattle.board.specs.Answering.{Ready, kept, replied, told, told-by, answered, through, open-write, concluded};
+ghost use Rattle.board.specs.Answering.{Ready, kept, replied, told, answered, through, open-write, state-by, eight-by};
 
-// A whole write ends the transfer, with the answer that says yes or with a code; after a device reset no line has one.
+// A whole write ends the transfer; after a device reset no line has one.
 fn conclude(
     values: &mut [u8],
     block: &mut [u8],
     state: &mut [u8],
     at: usize,
     row: usize,
+    kind: u8,
     bytes: &[u8],
-    eight: [u8; 8],
-) -> [u8; 8]
-    requires { ⌜ Ready at (now values) (now block) (now state) × (row < row-count) × (length (now bytes) ≡ at-row row .len) ⌝ }
-    ensures { λ r. ⌜ told (now (values .exit)) (now (block .exit)) (now (state .exit)) r ≡ told-by at (now (state .entry)) (concluded (memory-of (now (values .entry)) (now (block .entry))) row eight (commit-row (at-row row) (now (bytes .entry)) (memory-of (now (values .entry)) (now (block .entry))))) ⌝ }
+) -> Ending
+    requires { ⌜ Ready at (now values) (now block) (now state) × (row < row-count) × (kind ≡ at-row row .kind) × (length (now bytes) ≡ at-row row .len) ⌝ }
+    ensures { λ r. ⌜ (left r (now (values .exit)) (now (block .exit)) ≡ left-by (memory-of (now (values .entry)) (now (block .entry))) (commit-row (at-row row) (now (bytes .entry)) (memory-of (now (values .entry)) (now (block .entry))))) × (now (state .exit) ≡ state-by at r (now (state .entry))) ⌝ }
 {
-    let ending = gauge::commit::commit(values, block, row, bytes);
+    let ending = gauge::commit::commit(values, block, row, kind, bytes);
     match ending {
-        Ending::Accepted => reply::ended(state, at, eight),
+        Ending::Accepted => {
+            state::clear_record(state, at);
+            Ending::Accepted
+        }
         Ending::Restarted => {
             state::drop_all(state);
-            eight
+            Ending::Restarted
         }
-        Ending::Refused(code) => reply::refused(state, at, record::key_at(row), code),
+        Ending::Refused(code) => {
+            state::clear_record(state, at);
+            Ending::Refused(code)
+        }
+    }
+}
+
+// The answer to a whole write: the one that says yes, or the abort with its code.
+fn answer_by(ending: Ending, row: usize, eight: [u8; 8]) -> [u8; 8]
+    requires { ⌜ row < row-count ⌝ }
+    ensures { λ r. ⌜ r ≡ eight-by row eight ending ⌝ }
+{
+    match ending {
+        Ending::Accepted => eight,
+        Ending::Restarted => eight,
+        Ending::Refused(code) => answer::abort(record::key_at(row), code),
     }
 }
 
@@ -68,7 +87,7 @@ fn take_part(
     let row = t.row;
     let len = t.len;
     let place = t.place;
-    let toggle = t.toggle;
+    let eight = answer::part_taken(t.toggle);
     if len < place + count {
         return reply::refused(state, at, record::key_at(row), 0x06070012);
     }
@@ -78,22 +97,11 @@ fn take_part(
         }
         let next = record::grown(t, m, count);
         let held = next.held;
-        return conclude(
-            values,
-            block,
-            state,
-            at,
-            row,
-            &held[..len],
-            answer::part_taken(toggle),
-        );
+        let kind = table::field::kind_of(row);
+        let ending = conclude(values, block, state, at, row, kind, &held[..len]);
+        return answer_by(ending, row, eight);
     }
-    reply::going(
-        state,
-        at,
-        record::grown(t, m, count),
-        answer::part_taken(toggle),
-    )
+    reply::going(state, at, record::grown(t, m, count), eight)
 }
 
 pub fn send_part(
@@ -123,16 +131,24 @@ pub fn send_part(
 
 // ---- openings on the row of their key
 
-// A write in parts, its length not announced.
+// A write in parts, of the row's own length.
+fn open_parts(state: &mut [u8], at: usize, k: Key, row: usize, len: usize) -> [u8; 8]
+    requires { ⌜ (at + 70 ≤ length (now state)) × (row < row-count) × (k ≡ keyAt row) × (len ≡ at-row row .len) ⌝ }
+    ensures { λ r. ⌜ kept (now (state .exit)) r ≡ replied at (now (state .entry)) (openWriteReply row unsaid) ⌝ }
+{
+    let next = record::opened(Direction::Writes, row, [0; 64], len);
+    reply::going(state, at, next, answer::write_opened(k))
+}
+
+// Its length is not announced.
 fn open_unsaid(state: &mut [u8], at: usize, k: Key, row: usize) -> [u8; 8]
     requires { ⌜ (at + 70 ≤ length (now state)) × (row < row-count) × (k ≡ keyAt row) ⌝ }
     ensures { λ r. ⌜ kept (now (state .exit)) r ≡ replied at (now (state .entry)) (openWriteReply row unsaid) ⌝ }
 {
-    let next = record::opened(Direction::Writes, row, [0; 64], table::field::len_of(row));
-    reply::going(state, at, next, answer::write_opened(k))
+    open_parts(state, at, k, row, table::field::len_of(row))
 }
 
-// A write in parts, its length announced.
+// Its length is announced.
 fn open_announced(state: &mut [u8], at: usize, k: Key, row: usize, n: u32) -> [u8; 8]
     requires { ⌜ (at + 70 ≤ length (now state)) × (row < row-count) × (k ≡ keyAt row) ⌝ }
     ensures { λ r. ⌜ kept (now (state .exit)) r ≡ replied at (now (state .entry)) (openWriteReply row (announced n)) ⌝ }
@@ -145,7 +161,7 @@ fn open_announced(state: &mut [u8], at: usize, k: Key, row: usize, n: u32) -> [u
     if said < len {
         return reply::refused(state, at, k, 0x06070013);
     }
-    open_unsaid(state, at, k, row)
+    open_parts(state, at, k, row, len)
 }
 
 // The value in bytes 4 to 7 of message m, of the row's own length.
@@ -156,21 +172,15 @@ fn with_value(
     at: usize,
     k: Key,
     row: usize,
+    kind: u8,
     len: usize,
     m: &[u8],
 ) -> [u8; 8]
-    requires { ⌜ Ready at (now values) (now block) (now state) × ((row < row-count) × (k ≡ keyAt row)) × (len ≡ at-row row .len) × (len ≤ 4) × (length (now m) ≡ 8) ⌝ }
+    requires { ⌜ Ready at (now values) (now block) (now state) × ((row < row-count) × (k ≡ keyAt row) × (kind ≡ at-row row .kind)) × (len ≡ at-row row .len) × (len ≤ 4) × (length (now m) ≡ 8) ⌝ }
     ensures { λ r. ⌜ told (now (values .exit)) (now (block .exit)) (now (state .exit)) r ≡ answered at (now (values .entry)) (now (block .entry)) (now (state .entry)) (valueReply row len (now (m .entry))) ⌝ }
 {
-    conclude(
-        values,
-        block,
-        state,
-        at,
-        row,
-        &m[4..4 + len],
-        answer::write_opened(k),
-    )
+    let ending = conclude(values, block, state, at, row, kind, &m[4..4 + len]);
+    answer_by(ending, row, answer::write_opened(k))
 }
 
 // A write of the count bytes in the message.
@@ -187,14 +197,15 @@ fn write_sized(
     requires { ⌜ Ready at (now values) (now block) (now state) × ((row < row-count) × (k ≡ keyAt row)) × (length (now m) ≡ 8) × (count ≤ 4) ⌝ }
     ensures { λ r. ⌜ told (now (values .exit)) (now (block .exit)) (now (state .exit)) r ≡ answered at (now (values .entry)) (now (block .entry)) (now (state .entry)) (expeditedReply row (announced count) (take count (drop 4 (now (m .entry))))) ⌝ }
 {
-    let len = table::field::len_of(row);
+    let kind = table::field::kind_of(row);
+    let len = table::field::len_by(row, kind);
     if len < count {
         return reply::refused(state, at, k, 0x06070012);
     }
     if count < len {
         return reply::refused(state, at, k, 0x06070013);
     }
-    with_value(values, block, state, at, k, row, len, m)
+    with_value(values, block, state, at, k, row, kind, len, m)
 }
 
 // A write of the entry's own length.
@@ -210,11 +221,12 @@ fn write_own(
     requires { ⌜ Ready at (now values) (now block) (now state) × ((row < row-count) × (k ≡ keyAt row)) × (length (now m) ≡ 8) ⌝ }
     ensures { λ r. ⌜ told (now (values .exit)) (now (block .exit)) (now (state .exit)) r ≡ answered at (now (values .entry)) (now (block .entry)) (now (state .entry)) (expeditedReply row own (take 4 (drop 4 (now (m .entry))))) ⌝ }
 {
-    let len = table::field::len_of(row);
+    let kind = table::field::kind_of(row);
+    let len = table::field::len_by(row, kind);
     if 4 < len {
         return reply::refused(state, at, k, 0x06070013);
     }
-    with_value(values, block, state, at, k, row, len, m)
+    with_value(values, block, state, at, k, row, kind, len, m)
 }
 
 fn open_on(

@@ -97,12 +97,11 @@ fn put(values: &mut [u8], block: &mut [u8], row: usize, kind: u8, bytes: &[u8]) 
     Ending::Accepted
 }
 
-// The last checks, then the write.
-pub fn commit(values: &mut [u8], block: &mut [u8], row: usize, bytes: &[u8]) -> Ending
-    requires { ⌜ (length (now values) ≡ 1024) × (length (now block) ≡ 512) × (row < row-count) × (length (now bytes) ≡ at-row row .len) ⌝ }
+// The last checks, then the write, of a row that has this type.
+pub fn commit(values: &mut [u8], block: &mut [u8], row: usize, kind: u8, bytes: &[u8]) -> Ending
+    requires { ⌜ (length (now values) ≡ 1024) × (length (now block) ≡ 512) × (row < row-count) × (kind ≡ at-row row .kind) × (length (now bytes) ≡ at-row row .len) ⌝ }
     ensures { λ r. ⌜ left r (now (values .exit)) (now (block .exit)) ≡ left-by (memory-of (now (values .entry)) (now (block .entry))) (commit-row (at-row row) (now (bytes .entry)) (memory-of (now (values .entry)) (now (block .entry)))) ⌝ }
 {
-    let kind = field::kind_of(row);
     let code = refusal(values, row, kind, bytes);
     if code != 0 {
         return Ending::Refused(code);

@@ -26,6 +26,10 @@ module _ (r : Row) (rule : RowRule r) where
   unfolding width-of
   as-printed = rule .width
 
+  -- of a type that is known
+  pub width-by : (k : ℕ) → r .kind ≡ k → r .len ≡ length-by (r .len) k
+  width-by k e = as-printed ∙ ap (length-by (r .len)) e
+
   pub number-narrow : r .kind ≤ REAL → r .len ≤ 8
   number-narrow h = omega (arith, as-printed, by-kind (r .len) (r .kind) h .0)
 
@@ -34,7 +38,7 @@ module _ (r : Row) (rule : RowRule r) where
   nv-number-narrow e h = omega (arith, as-printed, by-kind (r .len) (r .kind) h .1 (rule .nv-narrow e))
 
   pub real-width : r .kind ≡ REAL → r .len ≡ 4
-  real-width e = as-printed ∙ ap (length-by (r .len)) e
+  real-width e = width-by REAL e
 
   pub card-width : r .kind ≡ CARD → r .len ≡ 33
-  card-width e = as-printed ∙ ap (length-by (r .len)) e
+  card-width e = width-by CARD e

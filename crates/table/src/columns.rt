@@ -3,6 +3,7 @@
 // read is laid out on the stack, so columns are narrow. WORD_PLACE and WORD have the words that make the defaults out of zeros.
 // NV_.. has the NV rows alone: the bit of the saved block at which each entry begins (and the last ends), and its limits as places in
 // the order of its type.
+// NV_CUT has the bits that are looked at as a number: of a string the first 32, which its NV_LOW and NV_HIGH do not refuse.
 pub const ROWS: usize = 129;
 
 pub const NV_ROWS: usize = 38;

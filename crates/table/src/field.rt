@@ -47,6 +47,22 @@ pub fn len_of(row: usize) -> usize
     wide::to_usize(columns::LEN[row])
 }
 
+// The length of a row of this type: that of a number follows from its type, with no column read.
+pub fn len_by(row: usize, kind: u8) -> usize
+    requires { ⌜ (row < row-count) × (kind ≡ at-row row .kind) ⌝ }
+    ensures { λ r. ⌜ r ≡ at-row row .len ⌝ }
+{
+    match kind {
+        0 => 1,
+        1 => 1,
+        2 => 2,
+        3 => 4,
+        4 => 8,
+        5 => 4,
+        _ => len_of(row),
+    }
+}
+
 pub fn place_of(row: usize) -> usize
     requires { ⌜ row < row-count ⌝ }
     ensures { λ r. ⌜ r ≡ at-row row .place ⌝ }

@@ -1,65 +1,29 @@
--- `bits::put_word`: four stores put 32 bits. Assumes nothing.
-use native.Mathlib.Omega.{arith}
-use lib.ListN.{length-set}
-use denote.Ref.{now}
+-- `put_word`: the turned word puts 32 bits. Assumes nothing.
+use Rattle.bits.proofs.Words.{turned-put}
 use borrow.Author.Needs.{needs}
-use Rattle.bits.proofs.Words.{four-stores}
 use Rattle.bits.proofs.put_word.Statement.{statement}
 use Rattle.bits.proofs.put_word.Tie as tie
 
-cast-s : tie.Need-cast-s
-cast-s c = search needs
+turned-requires : tie.Need-turned-requires
+turned-requires c κs = search needs
 
-slice-write-s : tie.Need-slice-write-s
-slice-write-s c = search needs
-
-cast-s-2 : tie.Need-cast-s-2
-cast-s-2 c = search needs
-
-add-s : tie.Need-add-s
-add-s c = search needs
-
-slice-write-s-2 : tie.Need-slice-write-s-2
-slice-write-s-2 c = simp length-set (omega arith)
-
-cast-s-3 : tie.Need-cast-s-3
-cast-s-3 c = search needs
-
-add-s-2 : tie.Need-add-s-2
-add-s-2 c = search needs
-
-slice-write-s-3 : tie.Need-slice-write-s-3
-slice-write-s-3 c = simp length-set (omega arith)
-
-cast-s-4 : tie.Need-cast-s-4
-cast-s-4 c = search needs
-
-add-s-3 : tie.Need-add-s-3
-add-s-3 c = search needs
-
-slice-write-s-4 : tie.Need-slice-write-s-4
-slice-write-s-4 c = simp length-set (omega arith)
+put-word-requires : tie.Need-put-word-requires
+put-word-requires c κs = search needs
 
 same-length : tie.Need-same-length
 same-length c = search needs
 
 returns : tie.Need-returns
-returns c = four-stores (now (c .args .s)) (c .args .at) (c .args .v) (c .pre)
+returns c =
+    let w = c .before .before in
+    let s = w .before .before .before .before in
+    turned-put (s .args .s .now) _ (s .args .at) (s .args .v) _ (s .pre) (s .fits .v .fits) (w .before .turned .ensures) (w .put-word .ensures)
 
 pub put-word-spec : {M : Type 1} → statement M
 put-word-spec =
     tie.close
     (tie.spec
-    cast-s
-    slice-write-s
-    cast-s-2
-    add-s
-    slice-write-s-2
-    cast-s-3
-    add-s-2
-    slice-write-s-3
-    cast-s-4
-    add-s-3
-    slice-write-s-4
+    turned-requires
+    put-word-requires
     same-length
     returns)

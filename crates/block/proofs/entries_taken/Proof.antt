@@ -44,7 +44,7 @@ returns-4 : tie.Need-returns-4
 returns-4 c =
     let b = c .before .before .before .before .before .before .before .before .before .before .before .before .before .before .before .before .before .before in
     let a = b .args in
-    (entry-bad (a .block .now) (c .before .before .before .before .before .before .before .before .before .before .get-field .ensures) (c .before .before .before .before .before .before .before .before .get-field2 .ensures) (c .before .before .before .before .before .before .before .before .before .if1 .left) (c .before .before .before .before .before .before .before .if2 .left) (c .before .before .before .before .before .before .rest-zero .ensures) (not-false (c .before .before .before .before .before .before .rest-zero .result) (c .before .before .before .before .before .if3 .left)) (c .before .before .before .good-entries .ensures .0) (c .if4 .taken), refl)
+    (entry-bad (a .block .now) (c .before .before .before .before .before .before .before .before .before .before .get-field .ensures) (c .before .before .before .before .before .before .before .before .get-field2 .ensures) (c .before .before .before .before .before .before .before .before .before .if1 .left) (c .before .before .before .before .before .before .before .if2 .left) (c .before .before .before .before .before .before .rest-zero .ensures) (not-false (c .before .before .before .before .before .before .rest-zero .result) (c .before .before .before .before .before .if3 .left)) (c .before .before .before .good-entries .ensures .0) (omega arith), refl)
 
 same-length-2 : tie.Need-same-length-2
 same-length-2 c = search needs

@@ -1,12 +1,10 @@
 -- `board::serve`: each return is one law, given what the calls ensure. Assumes nothing.
-use Rattle.board.proofs.CallLaws.{abort-served, answer-served}
-use lib.ListN.{length}
 use mathlib.Core.Path.{_≡_, sym, _∙_}
+use lib.ListN.{length}
 use borrow.Author.Needs.{needs}
+use Rattle.board.proofs.CallLaws.{abort-served, answer-served}
 use Rattle.board.proofs.serve.Statement.{statement}
 use Rattle.board.proofs.serve.Tie as tie
-use Rattle.board.proofs.serve.Reads as reads
-use Rattle.board.proofs.serve.Lts as lts
 
 place-of-requires : tie.Need-place-of-requires
 place-of-requires c κs = search needs

@@ -1,18 +1,16 @@
 -- `judge` is `row-verdict` of the value: a number is read and judged, anything else is within.
 use mathlib.Core.Path.{sym, _∙_}
-use native.Mathlib.Omega.{arith}
 use Prim.Native.Nat.{_≤_}
+use native.Mathlib.Omega.{arith}
 use denote.Ref.{now}
-use Rattle.table.specs.Rows.{at-row}
 use Rattle.table.specs.Row.{REAL}
-use Rattle.table.proofs.Widths.{number-narrow}
+use Rattle.table.specs.Rows.{at-row}
 use Rattle.table.proofs.Table.{row-rule}
+use Rattle.table.proofs.Widths.{number-narrow}
 use Rattle.entry.specs.Entry.{row-verdict}
 use Rattle.entry.proofs.RowLaws.{bytes-verdict, real-short, no-number}
 use Rattle.entry.proofs.judge.Statement.{statement}
 use Rattle.entry.proofs.judge.Tie as tie
-use Rattle.entry.proofs.judge.Reads as reads
-use Rattle.entry.proofs.judge.Lts as lts
 
 number-at-requires : tie.Need-number-at-requires
 number-at-requires c κs =

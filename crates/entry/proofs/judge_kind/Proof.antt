@@ -1,13 +1,11 @@
 -- `judge_kind` is `number-verdict` of the row: the limits read, handed to `judge_number`.
 use mathlib.Core.Path.{_∙_}
+use borrow.Author.Needs.{needs}
 use Rattle.table.specs.Rows.{at-row}
 use Rattle.table.proofs.Table.{row-rule}
 use Rattle.entry.proofs.RowLaws.{judgeable, verdict-from}
-use borrow.Author.Needs.{needs}
 use Rattle.entry.proofs.judge_kind.Statement.{statement}
 use Rattle.entry.proofs.judge_kind.Tie as tie
-use Rattle.entry.proofs.judge_kind.Reads as reads
-use Rattle.entry.proofs.judge_kind.Lts as lts
 
 limits-of-requires : tie.Need-limits-of-requires
 limits-of-requires c κs = search needs

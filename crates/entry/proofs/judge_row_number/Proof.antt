@@ -3,8 +3,6 @@ use mathlib.Core.Path.{sym, _∙_}
 use borrow.Author.Needs.{needs}
 use Rattle.entry.proofs.judge_row_number.Statement.{statement}
 use Rattle.entry.proofs.judge_row_number.Tie as tie
-use Rattle.entry.proofs.judge_row_number.Reads as reads
-use Rattle.entry.proofs.judge_row_number.Lts as lts
 
 kind-of-requires : tie.Need-kind-of-requires
 kind-of-requires c κs = search needs

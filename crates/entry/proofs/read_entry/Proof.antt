@@ -1,15 +1,13 @@
 -- `read_entry` is `copied`: the rule keeps the copy inside the values and the 64 bytes.
 use mathlib.Core.Path.{_∙_}
 use native.Mathlib.Omega.{arith}
+use borrow.Author.Needs.{needs}
 use Rattle.table.specs.Rows.{at-row}
 use Rattle.table.proofs.Table.{row-rule}
 use Rattle.entry.proofs.RowLaws.{held-most, held-from}
 use Rattle.entry.proofs.Writes.{copied-is}
-use borrow.Author.Needs.{needs}
 use Rattle.entry.proofs.read_entry.Statement.{statement}
 use Rattle.entry.proofs.read_entry.Tie as tie
-use Rattle.entry.proofs.read_entry.Reads as reads
-use Rattle.entry.proofs.read_entry.Lts as lts
 
 slice-aggregate-copy-at : tie.Need-slice-aggregate-copy-at
 slice-aggregate-copy-at c = search needs

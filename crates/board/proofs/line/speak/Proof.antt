@@ -1,18 +1,16 @@
 -- `board::line::speak`: by the message. Assumes nothing.
-use Rattle.board.proofs.Answered.{kept-told, told-as, next-done, read-done}
-use Rattle.board.specs.Answering.{through, open-read, reply-to, answered}
-use Rattle.board.specs.State.{record-at}
-use Rattle.sdo.proofs.ReplyLaws.{part-count}
-use Rattle.sdo.specs.Replies.{ending, nextPartReply}
-use Rattle.sdo.specs.declared.Message.{Message}
-use Rattle.gauge.specs.Gates.{read-gate}
-use Rattle.table.specs.Find.{find-row}
 use mathlib.Core.Path.{refl, sym, ap, _∙_}
 use borrow.Author.Needs.{needs}
+use Rattle.table.specs.Find.{find-row}
+use Rattle.gauge.specs.Gates.{read-gate}
+use Rattle.sdo.specs.Replies.{ending, nextPartReply}
+use Rattle.sdo.specs.declared.Message.{Message}
+use Rattle.sdo.proofs.ReplyLaws.{part-count}
+use Rattle.board.specs.Answering.{through, open-read, reply-to, answered}
+use Rattle.board.specs.State.{record-at}
+use Rattle.board.proofs.Answered.{kept-told, told-as, next-done, read-done}
 use Rattle.board.proofs.line.speak.Statement.{statement}
 use Rattle.board.proofs.line.speak.Tie as tie
-use Rattle.board.proofs.line.speak.Reads as reads
-use Rattle.board.proofs.line.speak.Lts as lts
 
 enum-known-said : tie.Need-enum-known-said
 enum-known-said c = search needs

@@ -1,12 +1,10 @@
 -- `board::read::give_part`: each return is one law, given what the calls ensure. Assumes nothing.
-use Rattle.board.specs.Answering.{replied}
-use Rattle.sdo.proofs.ReplyLaws.{given-last, given-more}
 use mathlib.Core.Path.{ap, _∙_}
 use borrow.Author.Needs.{needs}
+use Rattle.sdo.proofs.ReplyLaws.{given-last, given-more}
+use Rattle.board.specs.Answering.{replied}
 use Rattle.board.proofs.read.give_part.Statement.{statement}
 use Rattle.board.proofs.read.give_part.Tie as tie
-use Rattle.board.proofs.read.give_part.Reads as reads
-use Rattle.board.proofs.read.give_part.Lts as lts
 
 slice-aggregate-part-given : tie.Need-slice-aggregate-part-given
 slice-aggregate-part-given c = search needs

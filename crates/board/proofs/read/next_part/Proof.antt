@@ -1,19 +1,17 @@
 -- `board::read::next_part`: each return is one law, given what the calls ensure. Assumes nothing.
-use Rattle.board.specs.Answering.{replied}
-use Rattle.sdo.proofs.ReplyLaws.{next-given, next-wrong, next-none}
-use Rattle.sdo.proofs.RecordLaws.{counts-fits, at-most-64}
-use Rattle.sdo.proofs.Facts.{said, and-right}
-use Rattle.sdo.specs.Replies.{is-reading, nextPartReply}
-use Rattle.sdo.specs.Eight.{answerOf}
-use Rattle.sdo.specs.declared.Transfer.{Transfer}
-use Rattle.sdo.specs.declared.Key.{Key}
-use Rattle.order.specs.Talk.{wrongToggle}
 use mathlib.Core.Path.{ap, _∙_}
 use borrow.Author.Needs.{needs}
+use Rattle.order.specs.Talk.{wrongToggle}
+use Rattle.sdo.specs.Eight.{answerOf}
+use Rattle.sdo.specs.Replies.{is-reading, nextPartReply}
+use Rattle.sdo.specs.declared.Key.{Key}
+use Rattle.sdo.specs.declared.Transfer.{Transfer}
+use Rattle.sdo.proofs.Facts.{said, and-right}
+use Rattle.sdo.proofs.RecordLaws.{counts-fits, at-most-64}
+use Rattle.sdo.proofs.ReplyLaws.{next-given, next-wrong, next-none}
+use Rattle.board.specs.Answering.{replied}
 use Rattle.board.proofs.read.next_part.Statement.{statement}
 use Rattle.board.proofs.read.next_part.Tie as tie
-use Rattle.board.proofs.read.next_part.Reads as reads
-use Rattle.board.proofs.read.next_part.Lts as lts
 
 record-at-requires : tie.Need-record-at-requires
 record-at-requires c κs = search needs

@@ -1,14 +1,12 @@
 -- `board::read::open_read`: each return is one law, given what the calls ensure. Assumes nothing.
-use Rattle.board.specs.Answering.{replied, open-read}
-use Rattle.board.proofs.Doors.{open-there, open-key, open-reply, shut-reply}
-use Rattle.gauge.specs.Gates.{write-only}
-use Rattle.table.specs.Row.{WO}
 use mathlib.Core.Path.{ap, _∙_}
 use borrow.Author.Needs.{needs}
+use Rattle.table.specs.Row.{WO}
+use Rattle.gauge.specs.Gates.{write-only}
+use Rattle.board.specs.Answering.{replied, open-read}
+use Rattle.board.proofs.Doors.{open-there, open-key, open-reply, shut-reply}
 use Rattle.board.proofs.read.open_read.Statement.{statement}
 use Rattle.board.proofs.read.open_read.Tie as tie
-use Rattle.board.proofs.read.open_read.Reads as reads
-use Rattle.board.proofs.read.open_read.Lts as lts
 
 to-read-requires : tie.Need-to-read-requires
 to-read-requires c κs = search needs

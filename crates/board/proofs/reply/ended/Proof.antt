@@ -1,10 +1,8 @@
 -- `board::reply::ended`: each return is one law, given what the calls ensure. Assumes nothing.
-use Rattle.board.proofs.Answered.{ended-kept}
 use borrow.Author.Needs.{needs}
+use Rattle.board.proofs.Answered.{ended-kept}
 use Rattle.board.proofs.reply.ended.Statement.{statement}
 use Rattle.board.proofs.reply.ended.Tie as tie
-use Rattle.board.proofs.reply.ended.Reads as reads
-use Rattle.board.proofs.reply.ended.Lts as lts
 
 clear-record-requires : tie.Need-clear-record-requires
 clear-record-requires c κs = search needs

@@ -1,10 +1,8 @@
 -- `board::reply::going`: each return is one law, given what the calls ensure. Assumes nothing.
-use Rattle.board.proofs.Answered.{going-kept}
 use borrow.Author.Needs.{needs}
+use Rattle.board.proofs.Answered.{going-kept}
 use Rattle.board.proofs.reply.going.Statement.{statement}
 use Rattle.board.proofs.reply.going.Tie as tie
-use Rattle.board.proofs.reply.going.Reads as reads
-use Rattle.board.proofs.reply.going.Lts as lts
 
 put-record-requires : tie.Need-put-record-requires
 put-record-requires c κs = search needs

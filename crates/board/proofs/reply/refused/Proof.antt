@@ -1,14 +1,12 @@
 -- `board::reply::refused`: each return is one law, given what the calls ensure. Assumes nothing.
-use Rattle.board.specs.Answering.{replied}
-use Rattle.sdo.specs.Replies.{ending}
-use Prim.Native.Nat.{ℕ}
 use mathlib.Core.List.{List}
 use mathlib.Core.Path.{ap, _∙_}
+use Prim.Native.Nat.{ℕ}
 use borrow.Author.Needs.{needs}
+use Rattle.sdo.specs.Replies.{ending}
+use Rattle.board.specs.Answering.{replied}
 use Rattle.board.proofs.reply.refused.Statement.{statement}
 use Rattle.board.proofs.reply.refused.Tie as tie
-use Rattle.board.proofs.reply.refused.Reads as reads
-use Rattle.board.proofs.reply.refused.Lts as lts
 
 abort-requires : tie.Need-abort-requires
 abort-requires c κs = search needs

@@ -1,10 +1,8 @@
 -- `board::state::clear_record`: zeros over the record. Assumes nothing.
-use Rattle.board.proofs.StateLaws.{record-cleared}
 use borrow.Author.Needs.{needs}
+use Rattle.board.proofs.StateLaws.{record-cleared}
 use Rattle.board.proofs.state.clear_record.Statement.{statement}
 use Rattle.board.proofs.state.clear_record.Tie as tie
-use Rattle.board.proofs.state.clear_record.Reads as reads
-use Rattle.board.proofs.state.clear_record.Lts as lts
 
 slice-aggregate-copy-at : tie.Need-slice-aggregate-copy-at
 slice-aggregate-copy-at c = search needs

@@ -1,10 +1,8 @@
 -- `board::state::drop_all`: three writes. Assumes nothing.
-use Rattle.board.specs.Calls.{dropped}
 use borrow.Author.Needs.{needs}
+use Rattle.board.specs.Calls.{dropped}
 use Rattle.board.proofs.state.drop_all.Statement.{statement}
 use Rattle.board.proofs.state.drop_all.Tie as tie
-use Rattle.board.proofs.state.drop_all.Reads as reads
-use Rattle.board.proofs.state.drop_all.Lts as lts
 
 clear-record-requires : tie.Need-clear-record-requires
 clear-record-requires c κs = search needs

@@ -1,14 +1,9 @@
--- `board::write::conclude`: each return is one law, given what the calls ensure. Assumes nothing.
-use Rattle.board.proofs.Answered.{refused-row}
-use Rattle.board.proofs.Endings.{accepted-told, restarted-told, refused-told}
-use Rattle.gauge.specs.Whole.{commit-row}
-use Rattle.gauge.specs.Memory.{memory-of}
-use Rattle.table.specs.Rows.{at-row}
+-- `board::write::conclude`: by the ending. Assumes nothing.
+use Rattle.board.specs.Calls.{settled}
+use Rattle.board.specs.Answering.{state-by}
 use borrow.Author.Needs.{needs}
 use Rattle.board.proofs.write.conclude.Statement.{statement}
 use Rattle.board.proofs.write.conclude.Tie as tie
-use Rattle.board.proofs.write.conclude.Reads as reads
-use Rattle.board.proofs.write.conclude.Lts as lts
 
 commit-requires : tie.Need-commit-requires
 commit-requires c κs = search needs
@@ -16,8 +11,8 @@ commit-requires c κs = search needs
 enum-told : tie.Need-enum-told
 enum-told c = search needs
 
-ended-requires : tie.Need-ended-requires
-ended-requires c κs = search needs
+clear-record-requires : tie.Need-clear-record-requires
+clear-record-requires c κs = search needs
 
 enum-told-2 : tie.Need-enum-told-2
 enum-told-2 c = search needs
@@ -28,11 +23,8 @@ drop-all-requires c κs = search needs
 enum-known-ending : tie.Need-enum-known-ending
 enum-known-ending c = search needs
 
-key-at-requires : tie.Need-key-at-requires
-key-at-requires c κs = search needs
-
-refused-requires : tie.Need-refused-requires
-refused-requires c κs = search needs
+clear-record-requires-2 : tie.Need-clear-record-requires-2
+clear-record-requires-2 c κs = search needs
 
 same-length : tie.Need-same-length
 same-length c = search needs
@@ -44,12 +36,8 @@ same-length-3 : tie.Need-same-length-3
 same-length-3 c = search needs
 
 returns : tie.Need-returns
-returns c =
-    let s = c .before .before .before .before .before .before .before .before .before .before .before .before .before .before .before .before .before in
-    let m = memory-of (s .args .values .now) (s .args .block .now) in
-    let o = s .args .state .now in
-    let out = commit-row (at-row (s .args .row)) (s .args .bytes .now) m in
-    accepted-told m (s .args .row) (s .args .eight) _ _ (s .args .at) o out (c .before .before .before .before .before .before .before .before .before .before .commit .ensures) (c .before .before .before .before .enum-told .given .1) (c .before .before .ended .ensures)
+unfolding state-by settled
+returns c = (rw (c .before .before .before .before .enum-told .given .1) at (c .before .before .before .before .before .before .before .before .before .before .commit .ensures), c .before .before .clear-record .ensures)
 
 same-length-4 : tie.Need-same-length-4
 same-length-4 c = search needs
@@ -61,12 +49,8 @@ same-length-6 : tie.Need-same-length-6
 same-length-6 c = search needs
 
 returns-2 : tie.Need-returns-2
-returns-2 c =
-    let s = c .before .before .before .before .before .before .before .before .before .before .before .before .before .before .before .before .before in
-    let m = memory-of (s .args .values .now) (s .args .block .now) in
-    let o = s .args .state .now in
-    let out = commit-row (at-row (s .args .row)) (s .args .bytes .now) m in
-    restarted-told m (s .args .row) (s .args .eight) _ _ (s .args .at) o out (c .before .before .before .before .before .before .before .before .before .before .commit .ensures) (c .before .before .before .before .enum-told2 .given .1) (c .before .before .drop-all .ensures)
+unfolding state-by settled
+returns-2 c = (rw (c .before .before .before .before .enum-told2 .given .1) at (c .before .before .before .before .before .before .before .before .before .before .commit .ensures), c .before .before .drop-all .ensures)
 
 same-length-7 : tie.Need-same-length-7
 same-length-7 c = search needs
@@ -78,12 +62,8 @@ same-length-9 : tie.Need-same-length-9
 same-length-9 c = search needs
 
 returns-3 : tie.Need-returns-3
-returns-3 c =
-    let s = c .before .before .before .before .before .before .before .before .before .before .before .before .before .before .before .before .before .before .before in
-    let m = memory-of (s .args .values .now) (s .args .block .now) in
-    let o = s .args .state .now in
-    let out = commit-row (at-row (s .args .row)) (s .args .bytes .now) m in
-    refused-told m (s .args .row) (s .args .eight) _ _ (s .args .at) o out (c .before .before .before .before .before .before .before .before .before .before .before .before .commit .ensures) (c .before .before .before .before .before .before .ending .given .0 .0) (c .before .before .before .before .before .before .ending .given .1) (refused-row (s .args .at) o (s .args .row) (c .before .before .before .before .before .before .ending .given .0 .0) (c .before .before .before .key-at .ensures) (c .before .before .refused .ensures))
+unfolding state-by settled
+returns-3 c = (rw (c .before .before .before .before .before .ending .given .1) at (c .before .before .before .before .before .before .before .before .before .before .before .commit .ensures), c .before .before .clear-record2 .ensures)
 
 pub conclude-spec : {M : Type 1} → statement M
 conclude-spec =
@@ -91,12 +71,11 @@ conclude-spec =
     (tie.spec
     commit-requires
     enum-told
-    ended-requires
+    clear-record-requires
     enum-told-2
     drop-all-requires
     enum-known-ending
-    key-at-requires
-    refused-requires
+    clear-record-requires-2
     same-length
     same-length-2
     same-length-3

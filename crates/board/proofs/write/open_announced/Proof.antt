@@ -1,15 +1,13 @@
 -- `board::write::open_announced`: each return is one law, given what the calls ensure. Assumes nothing.
-use Rattle.board.proofs.Answered.{refused-row}
-use Rattle.board.specs.Answering.{replied}
-use Rattle.sdo.proofs.ReplyLaws.{announced-long, announced-short, announced-right}
-use Rattle.order.specs.Gauge.{tooLong, tooShort}
-use native.Mathlib.Omega.{arith}
 use mathlib.Core.Path.{sym, ap, _∙_}
+use native.Mathlib.Omega.{arith}
 use borrow.Author.Needs.{needs}
+use Rattle.order.specs.Gauge.{tooLong, tooShort}
+use Rattle.sdo.proofs.ReplyLaws.{announced-long, announced-short, announced-right}
+use Rattle.board.specs.Answering.{replied}
+use Rattle.board.proofs.Answered.{refused-row}
 use Rattle.board.proofs.write.open_announced.Statement.{statement}
 use Rattle.board.proofs.write.open_announced.Tie as tie
-use Rattle.board.proofs.write.open_announced.Reads as reads
-use Rattle.board.proofs.write.open_announced.Lts as lts
 
 len-of-requires : tie.Need-len-of-requires
 len-of-requires c κs = search needs
@@ -40,8 +38,8 @@ returns-2 c =
     let o = s .args .state .now in
     refused-row p o (s .args .row) tooShort (s .pre .2) (c .before .before .refused2 .ensures) ∙ ap (replied p o) (sym (announced-short (s .args .row) (s .args .n) (omega arith)))
 
-open-unsaid-requires : tie.Need-open-unsaid-requires
-open-unsaid-requires c κs = search needs
+open-parts-requires : tie.Need-open-parts-requires
+open-parts-requires c κs = search needs
 
 same-length-3 : tie.Need-same-length-3
 same-length-3 c = search needs
@@ -51,7 +49,7 @@ returns-3 c =
     let s = c .before .before .before .before .before .before .before .before in
     let p = s .args .at in
     let o = s .args .state .now in
-    c .before .before .open-unsaid .ensures ∙ ap (replied p o) (sym (announced-right (s .args .row) (s .args .n) (omega arith)))
+    c .before .before .open-parts .ensures ∙ ap (replied p o) (sym (announced-right (s .args .row) (s .args .n) (omega arith)))
 
 pub open-announced-spec : {M : Type 1} → statement M
 open-announced-spec =
@@ -64,6 +62,6 @@ open-announced-spec =
     refused-requires-2
     same-length-2
     returns-2
-    open-unsaid-requires
+    open-parts-requires
     same-length-3
     returns-3)

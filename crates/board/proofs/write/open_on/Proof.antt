@@ -1,16 +1,14 @@
 -- `board::write::open_on`: by the message. Assumes nothing.
-use Rattle.board.proofs.Answered.{kept-told, write-done}
-use Rattle.board.specs.Answering.{answered, open-write}
-use Rattle.sdo.proofs.ReplyLaws.{value-count}
-use Rattle.sdo.specs.Replies.{openWriteReply}
-use Rattle.sdo.specs.declared.Message.{Message}
-use Rattle.order.specs.Talk.{announced, unsaid}
 use mathlib.Core.Path.{sym, ap, _∙_}
 use borrow.Author.Needs.{needs}
+use Rattle.order.specs.Talk.{announced, unsaid}
+use Rattle.sdo.specs.Replies.{openWriteReply}
+use Rattle.sdo.specs.declared.Message.{Message}
+use Rattle.sdo.proofs.ReplyLaws.{value-count}
+use Rattle.board.specs.Answering.{answered, open-write}
+use Rattle.board.proofs.Answered.{kept-told, write-done}
 use Rattle.board.proofs.write.open_on.Statement.{statement}
 use Rattle.board.proofs.write.open_on.Tie as tie
-use Rattle.board.proofs.write.open_on.Reads as reads
-use Rattle.board.proofs.write.open_on.Lts as lts
 
 enum-known-said : tie.Need-enum-known-said
 enum-known-said c = search needs

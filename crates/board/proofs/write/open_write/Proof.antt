@@ -1,18 +1,16 @@
 -- `board::write::open_write`: each return is one law, given what the calls ensure. Assumes nothing.
-use Rattle.board.proofs.Answered.{told-as}
-use Rattle.board.specs.Answering.{answered, open-write}
-use Rattle.board.proofs.Doors.{open-there, open-key, open-reply, shut-reply}
-use Rattle.sdo.specs.Replies.{ending}
-use Rattle.sdo.specs.Eight.{answerOf}
-use Rattle.gauge.specs.Gates.{read-only}
-use Rattle.table.specs.Row.{RO}
-use Rattle.order.specs.Talk.{refused}
 use mathlib.Core.Path.{refl, ap, _∙_}
 use borrow.Author.Needs.{needs}
+use Rattle.order.specs.Talk.{refused}
+use Rattle.table.specs.Row.{RO}
+use Rattle.gauge.specs.Gates.{read-only}
+use Rattle.sdo.specs.Eight.{answerOf}
+use Rattle.sdo.specs.Replies.{ending}
+use Rattle.board.specs.Answering.{answered, open-write}
+use Rattle.board.proofs.Answered.{told-as}
+use Rattle.board.proofs.Doors.{open-there, open-key, open-reply, shut-reply}
 use Rattle.board.proofs.write.open_write.Statement.{statement}
 use Rattle.board.proofs.write.open_write.Tie as tie
-use Rattle.board.proofs.write.open_write.Reads as reads
-use Rattle.board.proofs.write.open_write.Lts as lts
 
 to-write-requires : tie.Need-to-write-requires
 to-write-requires c κs = search needs

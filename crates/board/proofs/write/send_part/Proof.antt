@@ -1,21 +1,19 @@
 -- `board::write::send_part`: each return is one law, given what the calls ensure. Assumes nothing.
-use Rattle.board.proofs.Answered.{told-as}
-use Rattle.board.specs.Answering.{answered}
-use Rattle.sdo.proofs.ReplyLaws.{sent-taken, sent-wrong, sent-none}
-use Rattle.sdo.proofs.RecordLaws.{counts-fits}
-use Rattle.sdo.proofs.Facts.{said, and-right}
-use Rattle.sdo.specs.Replies.{ending, is-writing, sendPartReply}
-use Rattle.sdo.specs.Eight.{answerOf}
-use Rattle.sdo.specs.declared.Transfer.{Transfer}
-use Rattle.sdo.specs.declared.Key.{Key}
-use Rattle.order.specs.Talk.{wrongToggle}
-use lib.ListN.{take, drop}
 use mathlib.Core.Path.{refl, ap, _∙_}
+use lib.ListN.{take, drop}
 use borrow.Author.Needs.{needs}
+use Rattle.order.specs.Talk.{wrongToggle}
+use Rattle.sdo.specs.Eight.{answerOf}
+use Rattle.sdo.specs.Replies.{ending, is-writing, sendPartReply}
+use Rattle.sdo.specs.declared.Key.{Key}
+use Rattle.sdo.specs.declared.Transfer.{Transfer}
+use Rattle.sdo.proofs.Facts.{said, and-right}
+use Rattle.sdo.proofs.RecordLaws.{counts-fits}
+use Rattle.sdo.proofs.ReplyLaws.{sent-taken, sent-wrong, sent-none}
+use Rattle.board.specs.Answering.{answered}
+use Rattle.board.proofs.Answered.{told-as}
 use Rattle.board.proofs.write.send_part.Statement.{statement}
 use Rattle.board.proofs.write.send_part.Tie as tie
-use Rattle.board.proofs.write.send_part.Reads as reads
-use Rattle.board.proofs.write.send_part.Lts as lts
 
 record-at-requires : tie.Need-record-at-requires
 record-at-requires c κs = search needs

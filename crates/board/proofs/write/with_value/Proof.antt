@@ -1,28 +1,26 @@
 -- `board::write::with_value`: each return is one law, given what the calls ensure. Assumes nothing.
-use Prim.Native.Nat.{ℕ, _+_, _-_}
--- `board::write::with_value`: each return is one law, given what the calls ensure. Assumes nothing.
-use Rattle.board.proofs.Answered.{committed-told}
-use Rattle.board.specs.Answering.{concluded, told-by}
-use Rattle.sdo.proofs.ReplyLaws.{filled-value}
-use Rattle.sdo.specs.Replies.{openedRecord, filled}
-use Rattle.sdo.specs.Records.{keyAt}
-use Rattle.sdo.specs.Eight.{answerOf}
-use Rattle.sdo.specs.declared.Direction.the-variants.{Writes}
-use Rattle.sdo.specs.declared.Key.{Key}
-use Rattle.gauge.specs.Whole.{commit-row}
-use Rattle.gauge.specs.Memory.{memory-of}
-use Rattle.table.specs.Rows.{at-row}
-use Rattle.order.specs.Talk.{writeOpened}
-use Rattle.wire.proofs.SpliceLaws.{part-length}
-use lib.ListN.{length, take, drop}
-use native.Mathlib.Omega.{arith}
 use mathlib.Core.List.{List}
 use mathlib.Core.Path.{_≡_, sym, ap, ap₂, _∙_}
+use Prim.Native.Nat.{ℕ, _+_, _-_}
+use native.Mathlib.Omega.{arith}
+use lib.ListN.{length, take, drop}
+use Rattle.wire.proofs.SpliceLaws.{part-length}
+use Rattle.order.specs.Talk.{writeOpened}
+use Rattle.table.specs.Rows.{at-row}
+use Rattle.gauge.specs.Memory.{memory-of}
+use Rattle.gauge.specs.Whole.{commit-row}
+use Rattle.sdo.specs.Eight.{answerOf}
+use Rattle.sdo.specs.Records.{keyAt}
+use Rattle.sdo.specs.Replies.{openedRecord, filled}
+use Rattle.sdo.specs.declared.Direction.the-variants.{Writes}
+use Rattle.sdo.specs.declared.Key.{Key}
+use Rattle.sdo.proofs.ReplyLaws.{filled-value}
+use Rattle.board.specs.Answering.{concluded, told-by}
+use Rattle.board.proofs.Answered.{committed-told}
+use Rattle.board.proofs.Endings.{concluded-told}
 use borrow.Author.Needs.{needs}
 use Rattle.board.proofs.write.with_value.Statement.{statement}
 use Rattle.board.proofs.write.with_value.Tie as tie
-use Rattle.board.proofs.write.with_value.Reads as reads
-use Rattle.board.proofs.write.with_value.Lts as lts
 
 add-conclude : tie.Need-add-conclude
 add-conclude c = search needs
@@ -36,11 +34,14 @@ part-conclude-start c = search needs
 part-conclude-end : tie.Need-part-conclude-end
 part-conclude-end c = search needs
 
+conclude-requires : tie.Need-conclude-requires
+conclude-requires c κs = search needs
+
 write-opened-requires : tie.Need-write-opened-requires
 write-opened-requires c κs = search needs
 
-conclude-requires : tie.Need-conclude-requires
-conclude-requires c κs = search needs
+answer-by-requires : tie.Need-answer-by-requires
+answer-by-requires c κs = search needs
 
 same-length : tie.Need-same-length
 same-length c = search needs
@@ -53,7 +54,7 @@ same-length-3 c = search needs
 
 returns : tie.Need-returns
 returns c =
-    let s = c .before .before .before .before .before .before .before .before .before .before .before .before .before .before .before .before in
+    let s = c .before .before .before .before .before .before .before .before .before .before .before .before .before .before .before .before .before in
     let p = s .args .at in
     let v = s .args .values .now in
     let b = s .args .block .now in
@@ -64,8 +65,11 @@ returns c =
     let bytes = take n (drop 4 m) in
     let long : length bytes ≡ n = let h = s .pre .3 in let g = s .pre .4 in part-length m 4 n (omega arith) in
     let whole : 4 + n - 4 ≡ n = omega arith in
+    let end = c .before .before .before .before .before .before .before .before .conclude in
+    let yes = c .before .write-opened in
     committed-told p v b o (answerOf (writeOpened (keyAt row))) (openedRecord Writes row (filled bytes) n)
-    (c .before .before .before .before .before .before .conclude .ensures ∙ ap₂ (λ (e bs : List ℕ). told-by p o (concluded (memory-of v b) row e (commit-row (at-row row) bs (memory-of v b)))) (c .before .before .before .before .before .before .before .write-opened .ensures ∙ ap (λ (k : Key). answerOf (writeOpened k)) (s .pre .1 .1)) (ap (λ (j : ℕ). take j (drop 4 m)) whole ∙ sym (filled-value bytes n long)))
+    (concluded-told (memory-of v b) row (yes .result) _ _ p o _ (end .result) (end .ensures .0) (end .ensures .1) (c .answer-by .ensures)
+    ∙ ap₂ (λ (e bs : List ℕ). told-by p o (concluded (memory-of v b) row e (commit-row (at-row row) bs (memory-of v b)))) (yes .ensures ∙ ap (λ (k : Key). answerOf (writeOpened k)) (s .pre .1 .1)) (ap (λ (j : ℕ). take j (drop 4 m)) whole ∙ sym (filled-value bytes n long)))
 
 pub with-value-spec : {M : Type 1} → statement M
 with-value-spec =
@@ -75,8 +79,9 @@ with-value-spec =
     sub-conclude
     part-conclude-start
     part-conclude-end
-    write-opened-requires
     conclude-requires
+    write-opened-requires
+    answer-by-requires
     same-length
     same-length-2
     same-length-3

@@ -1,19 +1,20 @@
 -- `board::write::write_own`: each return is one law, given what the calls ensure. Assumes nothing.
-use Rattle.board.proofs.Answered.{refused-row, told-as}
+use mathlib.Core.Path.{refl, sym, ap, _∙_}
+use native.Mathlib.Omega.{arith}
+use borrow.Author.Needs.{needs}
+use Rattle.order.specs.Gauge.{tooShort}
+use Rattle.sdo.specs.Replies.{refusal}
 use Rattle.sdo.proofs.ReplyLaws.{own-short, own-right}
 use Rattle.board.specs.Answering.{answered}
-use Rattle.sdo.specs.Replies.{refusal}
-use Rattle.order.specs.Gauge.{tooShort}
-use native.Mathlib.Omega.{arith}
-use mathlib.Core.Path.{refl, sym, ap, _∙_}
-use borrow.Author.Needs.{needs}
+use Rattle.board.proofs.Answered.{refused-row, told-as}
 use Rattle.board.proofs.write.write_own.Statement.{statement}
 use Rattle.board.proofs.write.write_own.Tie as tie
-use Rattle.board.proofs.write.write_own.Reads as reads
-use Rattle.board.proofs.write.write_own.Lts as lts
 
-len-of-requires : tie.Need-len-of-requires
-len-of-requires c κs = search needs
+kind-of-requires : tie.Need-kind-of-requires
+kind-of-requires c κs = search needs
+
+len-by-requires : tie.Need-len-by-requires
+len-by-requires c κs = search needs
 
 refused-requires : tie.Need-refused-requires
 refused-requires c κs = search needs
@@ -23,7 +24,7 @@ same-length c = search needs
 
 returns : tie.Need-returns
 returns c =
-    let s = c .before .before .before .before .before .before .before .before .before .before in
+    let s = c .before .before .before .before .before .before .before .before .before .before .before in
     let p = s .args .at in
     let v = s .args .values .now in
     let b = s .args .block .now in
@@ -44,18 +45,19 @@ same-length-4 c = search needs
 
 returns-2 : tie.Need-returns-2
 returns-2 c =
-    let s = c .before .before .before .before .before .before .before .before .before .before .before .before .before .before .before .before in
+    let s = c .before .before .before .before .before .before .before .before .before .before .before .before .before .before .before .before .before in
     let p = s .args .at in
     let v = s .args .values .now in
     let b = s .args .block .now in
     let o = s .args .state .now in
-    c .before .before .before .before .before .before .with-value .ensures ∙ ap (answered p v b o) (sym (own-right (s .args .row) (s .args .m .now) (s .pre .2) (c .before .before .before .before .before .before .before .before .before .before .before .len-of .result) (c .before .before .before .before .before .before .before .before .before .before .before .len-of .ensures) (omega arith)))
+    c .before .before .before .before .before .before .with-value .ensures ∙ ap (answered p v b o) (sym (own-right (s .args .row) (s .args .m .now) (s .pre .2) (c .before .before .before .before .before .before .before .before .before .before .before .len-by .result) (c .before .before .before .before .before .before .before .before .before .before .before .len-by .ensures) (omega arith)))
 
 pub write-own-spec : {M : Type 1} → statement M
 write-own-spec =
     tie.close
     (tie.spec
-    len-of-requires
+    kind-of-requires
+    len-by-requires
     refused-requires
     same-length
     returns

@@ -1,21 +1,22 @@
 -- `board::write::write_sized`: each return is one law, given what the calls ensure. Assumes nothing.
-use Rattle.board.proofs.Answered.{refused-row, told-as}
-use Rattle.sdo.proofs.ReplyLaws.{sized-long, sized-short, sized-right}
-use Prim.Native.Nat.{ℕ}
-use Rattle.board.specs.Answering.{answered}
-use Rattle.sdo.specs.Replies.{refusal, valueReply}
-use Rattle.order.specs.Gauge.{tooLong, tooShort}
-use lib.ListN.{take, drop}
-use native.Mathlib.Omega.{arith}
 use mathlib.Core.Path.{_≡_, refl, sym, ap, _∙_}
+use Prim.Native.Nat.{ℕ}
+use native.Mathlib.Omega.{arith}
+use lib.ListN.{take, drop}
 use borrow.Author.Needs.{needs}
+use Rattle.order.specs.Gauge.{tooLong, tooShort}
+use Rattle.sdo.specs.Replies.{refusal, valueReply}
+use Rattle.sdo.proofs.ReplyLaws.{sized-long, sized-short, sized-right}
+use Rattle.board.specs.Answering.{answered}
+use Rattle.board.proofs.Answered.{refused-row, told-as}
 use Rattle.board.proofs.write.write_sized.Statement.{statement}
 use Rattle.board.proofs.write.write_sized.Tie as tie
-use Rattle.board.proofs.write.write_sized.Reads as reads
-use Rattle.board.proofs.write.write_sized.Lts as lts
 
-len-of-requires : tie.Need-len-of-requires
-len-of-requires c κs = search needs
+kind-of-requires : tie.Need-kind-of-requires
+kind-of-requires c κs = search needs
+
+len-by-requires : tie.Need-len-by-requires
+len-by-requires c κs = search needs
 
 refused-requires : tie.Need-refused-requires
 refused-requires c κs = search needs
@@ -25,7 +26,7 @@ same-length c = search needs
 
 returns : tie.Need-returns
 returns c =
-    let s = c .before .before .before .before .before .before .before .before .before .before in
+    let s = c .before .before .before .before .before .before .before .before .before .before .before in
     let p = s .args .at in
     let v = s .args .values .now in
     let b = s .args .block .now in
@@ -40,7 +41,7 @@ same-length-2 c = search needs
 
 returns-2 : tie.Need-returns-2
 returns-2 c =
-    let s = c .before .before .before .before .before .before .before .before .before .before .before in
+    let s = c .before .before .before .before .before .before .before .before .before .before .before .before in
     let p = s .args .at in
     let v = s .args .values .now in
     let b = s .args .block .now in
@@ -61,19 +62,20 @@ same-length-5 c = search needs
 
 returns-3 : tie.Need-returns-3
 returns-3 c =
-    let s = c .before .before .before .before .before .before .before .before .before .before .before .before .before .before .before .before .before in
+    let s = c .before .before .before .before .before .before .before .before .before .before .before .before .before .before .before .before .before .before in
     let p = s .args .at in
     let v = s .args .values .now in
     let b = s .args .block .now in
     let o = s .args .state .now in
-    let same : s .args .count ≡ c .before .before .before .before .before .before .before .before .before .before .before .before .len-of .result = omega arith in
-    c .before .before .before .before .before .before .with-value .ensures ∙ ap (λ (n : ℕ). answered p v b o (valueReply (s .args .row) n (s .args .m .now))) (sym same) ∙ ap (answered p v b o) (sym (sized-right (s .args .row) (s .args .m .now) (s .pre .2) (s .args .count) (same ∙ c .before .before .before .before .before .before .before .before .before .before .before .before .len-of .ensures) (s .pre .3)))
+    let same : s .args .count ≡ c .before .before .before .before .before .before .before .before .before .before .before .before .len-by .result = omega arith in
+    c .before .before .before .before .before .before .with-value .ensures ∙ ap (λ (n : ℕ). answered p v b o (valueReply (s .args .row) n (s .args .m .now))) (sym same) ∙ ap (answered p v b o) (sym (sized-right (s .args .row) (s .args .m .now) (s .pre .2) (s .args .count) (same ∙ c .before .before .before .before .before .before .before .before .before .before .before .before .len-by .ensures) (s .pre .3)))
 
 pub write-sized-spec : {M : Type 1} → statement M
 write-sized-spec =
     tie.close
     (tie.spec
-    len-of-requires
+    kind-of-requires
+    len-by-requires
     refused-requires
     same-length
     returns

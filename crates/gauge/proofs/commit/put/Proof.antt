@@ -1,12 +1,10 @@
 -- `gauge::commit::put`: each return is one law, given what the calls ensure. Assumes nothing.
-use Rattle.gauge.proofs.CommitLaws.{card-length, other-held, put-card, put-command, put-other}
-use Rattle.table.specs.Rows.{at-row}
 use mathlib.Core.Path.{sym, _∙_}
 use borrow.Author.Needs.{needs}
+use Rattle.table.specs.Rows.{at-row}
+use Rattle.gauge.proofs.CommitLaws.{card-length, other-held, put-card, put-command, put-other}
 use Rattle.gauge.proofs.commit.put.Statement.{statement}
 use Rattle.gauge.proofs.commit.put.Tie as tie
-use Rattle.gauge.proofs.commit.put.Reads as reads
-use Rattle.gauge.proofs.commit.put.Lts as lts
 
 write-requires : tie.Need-write-requires
 write-requires c κs = let s = c .before .before .before .before .before in (s .pre .0, s .pre .4 ∙ card-length (s .args .row) (s .pre .2) (sym (s .pre .3) ∙ c .before .if1 .taken))

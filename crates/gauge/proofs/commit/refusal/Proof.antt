@@ -1,13 +1,10 @@
 -- `gauge::commit::refusal`: each return is one law, given what the calls ensure. Assumes nothing.
-use Rattle.gauge.proofs.CommitLaws.{lock-refuses, card-length, limits-first, card-judged, entry-judged}
-use Rattle.table.specs.Rows.{at-row}
 use mathlib.Core.Path.{sym, _∙_}
 use borrow.Author.Needs.{needs}
+use Rattle.table.specs.Rows.{at-row}
+use Rattle.gauge.proofs.CommitLaws.{lock-refuses, card-length, limits-first, card-judged, entry-judged}
 use Rattle.gauge.proofs.commit.refusal.Statement.{statement}
 use Rattle.gauge.proofs.commit.refusal.Tie as tie
-use Rattle.gauge.proofs.commit.refusal.Reads as reads
-use Rattle.gauge.proofs.commit.refusal.Lts as lts
-use Rattle.entry.proofs.judge.Reads as judge-reads′
 
 refuses-requires : tie.Need-refuses-requires
 refuses-requires c κs = search needs

@@ -1,11 +1,9 @@
 -- `gauge::lock::guards`: by NV mark and type. Assumes nothing.
-use Rattle.gauge.specs.Lock.{guarded}
 use borrow.Author.Tests.{eq-eqb, ne-eqb}
 use borrow.Author.Needs.{needs}
+use Rattle.gauge.specs.Lock.{guarded}
 use Rattle.gauge.proofs.lock.guards.Statement.{statement}
 use Rattle.gauge.proofs.lock.guards.Tie as tie
-use Rattle.gauge.proofs.lock.guards.Reads as reads
-use Rattle.gauge.proofs.lock.guards.Lts as lts
 
 nv-of-requires : tie.Need-nv-of-requires
 nv-of-requires c κs = search needs

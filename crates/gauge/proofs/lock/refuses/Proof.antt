@@ -1,14 +1,12 @@
 -- `gauge::lock::refuses`: the row is looked at only where the lock is 1. Assumes nothing.
-use Rattle.gauge.specs.Lock.{guarded, locked}
-use Rattle.table.specs.Rows.{at-row}
-use borrow.Author.Tests.{eq-eqb, ne-eqb}
 use mathlib.Core.Bool.{Bool, _&&_, and-true, and-false}
 use mathlib.Core.Path.{sym, ap, _∙_}
+use borrow.Author.Tests.{eq-eqb, ne-eqb}
 use borrow.Author.Needs.{needs}
+use Rattle.table.specs.Rows.{at-row}
+use Rattle.gauge.specs.Lock.{guarded, locked}
 use Rattle.gauge.proofs.lock.refuses.Statement.{statement}
 use Rattle.gauge.proofs.lock.refuses.Tie as tie
-use Rattle.gauge.proofs.lock.refuses.Reads as reads
-use Rattle.gauge.proofs.lock.refuses.Lts as lts
 
 byte-at-requires : tie.Need-byte-at-requires
 byte-at-requires c κs = search needs

@@ -1,13 +1,11 @@
 -- `byte_at` meets its contract: inside the bytes taken, and past them.
-use native.Mathlib.Omega.{arith}
 use mathlib.Core.Path.{sym}
+use native.Mathlib.Omega.{arith}
 use lib.ListN.{take, length-take, List·getD-eq-default}
 use lib.Seq.{getD-take}
 use borrow.Author.Needs.{needs}
 use Rattle.sdo.proofs.answer.byte_at.Statement.{statement}
 use Rattle.sdo.proofs.answer.byte_at.Tie as tie
-use Rattle.sdo.proofs.answer.byte_at.Reads as reads
-use Rattle.sdo.proofs.answer.byte_at.Lts as lts
 
 shared-slice-read-result : tie.Need-shared-slice-read-result
 shared-slice-read-result c = search needs

@@ -1,7 +1,7 @@
 -- `opened_short` meets its contract: the bytes, taken one by one, are the value filled up with zeros.
 use native.Mathlib.Omega.{arith}
-use Rattle.sdo.proofs.Facts.{short-laid}
 use borrow.Author.Needs.{needs}
+use Rattle.sdo.proofs.Facts.{short-laid}
 use Rattle.sdo.proofs.answer.opened_short.Statement.{statement}
 use Rattle.sdo.proofs.answer.opened_short.Tie as tie
 

@@ -1,7 +1,7 @@
 -- `part_given` meets its contract: the bytes, taken one by one, are the part filled up with zeros.
 use native.Mathlib.Omega.{arith}
-use Rattle.sdo.proofs.Facts.{part-laid}
 use borrow.Author.Needs.{needs}
+use Rattle.sdo.proofs.Facts.{part-laid}
 use Rattle.sdo.proofs.answer.part_given.Statement.{statement}
 use Rattle.sdo.proofs.answer.part_given.Tie as tie
 

@@ -1,11 +1,9 @@
 -- `counts` meets its contract: each test that fails settles the definition.
-use Rattle.sdo.proofs.Facts.{said}
 use borrow.Author.Tests.{eq-eqb, ne-eqb, lt-ltb, le-ltb}
 use borrow.Author.Needs.{needs}
+use Rattle.sdo.proofs.Facts.{said}
 use Rattle.sdo.proofs.record.counts.Statement.{statement}
 use Rattle.sdo.proofs.record.counts.Tie as tie
-use Rattle.sdo.proofs.record.counts.Reads as reads
-use Rattle.sdo.proofs.record.counts.Lts as lts
 
 returns : tie.Need-returns
 returns c = simp (le-ltb _ _ (c .if1 .taken))

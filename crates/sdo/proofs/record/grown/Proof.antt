@@ -1,9 +1,9 @@
 -- `grown` meets its contract: the bytes are copied to their place.
-use Rattle.wire.proofs.SpliceLaws.{part-length}
+use mathlib.Core.Path.{_≡_}
 use native.Mathlib.Omega.{arith}
 use lib.ListN.{length}
-use mathlib.Core.Path.{_≡_}
 use borrow.Author.Needs.{needs}
+use Rattle.wire.proofs.SpliceLaws.{part-length}
 use Rattle.sdo.proofs.record.grown.Statement.{statement}
 use Rattle.sdo.proofs.record.grown.Tie as tie
 

@@ -1,9 +1,9 @@
 -- `reading` meets its contract, by the direction.
-use Rattle.sdo.proofs.Facts.{and-first}
 use mathlib.Core.Path.{ap, _∙_}
-use Rattle.sdo.specs.Replies.{is-reading}
-use Rattle.sdo.specs.Records.{counts}
 use borrow.Author.Needs.{needs}
+use Rattle.sdo.specs.Records.{counts}
+use Rattle.sdo.specs.Replies.{is-reading}
+use Rattle.sdo.proofs.Facts.{and-first}
 use Rattle.sdo.proofs.record.reading.Statement.{statement}
 use Rattle.sdo.proofs.record.reading.Tie as tie
 

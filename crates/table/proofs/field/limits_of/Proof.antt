@@ -1,14 +1,12 @@
 -- `table::field::limits_of`: the row's pair of limits has the fields `low` and `high`. Assumes nothing.
+use mathlib.Core.Path.{ap, _∙_}
+use Prim.Native.Nat.{ℕ, _<_}
+use lib.ListN.{getD}
+use borrow.Author.Needs.{needs}
 use Rattle.table.proofs.ColumnLaws.{low-by-pair, high-by-pair, pair-there}
 use Rattle.table.proofs.Pairs.{pairs, minima, maxima, pair-count}
-use lib.ListN.{getD}
-use Prim.Native.Nat.{ℕ, _<_}
-use mathlib.Core.Path.{_≡_, ap, _∙_}
-use borrow.Author.Needs.{needs}
 use Rattle.table.proofs.field.limits_of.Statement.{statement}
 use Rattle.table.proofs.field.limits_of.Tie as tie
-use Rattle.table.proofs.field.limits_of.Reads as reads
-use Rattle.table.proofs.field.limits_of.Lts as lts
 
 array-read-to-usize : tie.Need-array-read-to-usize
 array-read-to-usize c = search needs
