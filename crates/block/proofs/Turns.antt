@@ -80,6 +80,14 @@ limits-long lows highs lent =
 pub place-at : (places : List ℕ) → Places places → (i : ℕ) → i < nv-count → getD places i 0 ≡ at-nv i .place
 place-at places are i h = column-at (λ (r : Row). r .place) places are i h
 
+shifted : (l : List ℕ) (i : ℕ) → getD (drop {A = ℕ} 1 l) i 0 ≡ getD l (i + 1) 0
+shifted [] i = refl
+shifted (x ∷ l) i = rw (add-one i)
+
+-- where an entry ends the next one begins
+pub end-at : {kinds ats : List ℕ} → Fields kinds ats → (i : ℕ) → i < nv-count → {end : ℕ} → end ≡ getD (take (length ats - 1) (drop 1 ats)) i 0 → end ≡ getD ats (i + 1) 0
+end-at {kinds} {ats} lent i h e = e ∙ getD-take (length ats - 1) (drop 1 ats) i 0 (omega (arith, fields-long lent)) ∙ shifted ats i
+
 -- ---- an entry that a walk has reached
 
 pub record Here (i kind at width : ℕ) : Type 0 where

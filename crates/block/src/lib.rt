@@ -164,10 +164,11 @@ fn take_entries(
     requires { ⌜ (n ≤ nv-count) × Fields (now kinds) (now ats) × Places (now places) × Front (bits (now block)) (now numbers) n × (length (now block) ≡ 512) × (length (now values) ≡ 1024) ⌝ }
     ensures { λ _. ⌜ now (values .exit) ≡ load-rows (bits (now (block .entry))) 8 (take n nv) (now (values .entry)) ⌝ }
 {
+    let ends = &ats[1..];
     let mut i = 0;
     while i < n {
         let at = wide::pair_to_usize(ats[i]);
-        let width = wide::pair_to_usize(ats[i + 1]) - at;
+        let width = wide::pair_to_usize(ends[i]) - at;
         let place = wide::pair_to_usize(places[i]);
         take_entry(block, at, kinds[i], width, numbers[i], values, place);
         i += 1;
@@ -187,6 +188,7 @@ fn save_entries(
     requires { ⌜ Fields (now kinds) (now ats) × Places (now places) × Limits (now lows) (now highs) × (length (now values) ≡ 1024) × (length (now block) ≡ fresh-bytes) × (all-zero (drop 8 (bits (now block))) ≡ true) ⌝ }
     ensures { λ r. ⌜ (r ≡ held-front (now (values .entry)) nv) × (bits (now (block .exit)) ≡ splice (bits (now (block .entry))) 8 (saved (now (values .entry)) (take r nv))) ⌝ }
 {
+    let ends = &ats[1..];
     let mut i = 0;
     while i < columns::NV_ROWS {
         let kind = kinds[i];
@@ -197,7 +199,7 @@ fn save_entries(
             return i;
         }
         let at = wide::pair_to_usize(ats[i]);
-        let width = wide::pair_to_usize(ats[i + 1]) - at;
+        let width = wide::pair_to_usize(ends[i]) - at;
         save_entry(values, place, kind, v, block, at, width);
         i += 1;
     }
