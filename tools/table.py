@@ -321,8 +321,7 @@ def columns_rt(rows, end):
         ("WORD_PLACE", "u16", [place for place, _ in words]),
         ("WORD", "u32", [word for _, word in words]),
         ("NV_KIND", "u8", [KINDS.index(r["kind"]) for r in nv]),
-        ("NV_AT", "u16", block_starts(rows)[:-1]),
-        ("NV_WIDTH", "u16", [block_width(r) for r in nv]),
+        ("NV_AT", "u16", block_starts(rows)),
         ("NV_CUT", "u8", [block_width(r) if is_number(r) else 32 for r in nv]),
         ("NV_PLACE", "u16", [r["place"] for r in nv]),
         ("NV_LOW", "u32", [rank(r, r["low"]) for r in nv]),
@@ -331,8 +330,9 @@ def columns_rt(rows, end):
     text = """// The object table as flat constant arrays. tools/table.py writes this file from docs/object-table.md.
 // LIMITS has for each row the number of its limits in MINIMUM and MAXIMUM: few pairs serve all rows, and a column that is
 // read is laid out on the stack, so columns are narrow. WORD_PLACE and WORD have the words that make the defaults out of zeros.
-// NV_.. has the NV rows alone: where the saved block has each entry and how wide, and its limits as places in the order of its type.
-// NV_CUT has the bits that are looked at as a number: of a string the first 32, which its NV_LOW and NV_HIGH do not refuse.
+// NV_.. has the NV rows alone: the bit of the saved block at which each entry begins (and the last ends), and its limits as places in
+// the order of its type. NV_CUT has the bits that are looked at as a number: of a string the first 32, which its NV_LOW and NV_HIGH do
+// not refuse.
 pub const ROWS: usize = %d;
 
 pub const NV_ROWS: usize = %d;

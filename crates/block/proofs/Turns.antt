@@ -3,7 +3,7 @@ use mathlib.Core.Bool.{Bool, true, false}
 use mathlib.Core.List.{List, [], _∷_, _++_, map}
 use mathlib.Core.Logic.{⊎-elim}
 use mathlib.Core.Path.{_≡_, refl, sym, ap, _∙_}
-use Prim.Native.Nat.{ℕ, zero, suc, _+_, _*_, _^_, _≤_, _<_}
+use Prim.Native.Nat.{ℕ, zero, suc, _+_, _-_, _*_, _^_, _≤_, _<_}
 use native.Mathlib.Nat.{not-suc-le-zero, le-of-suc-le-suc, add-zero}
 use native.Mathlib.Numerals.{add-one}
 use native.Mathlib.Omega.{arith}
@@ -15,7 +15,7 @@ use Rattle.block.proofs.Entries.{length-entry}
 use Rattle.block.proofs.Judged.{held-judged, cut-is, cut-fits, saved-judged}
 use Rattle.block.proofs.Kept.{Kept, kept}
 use Rattle.block.proofs.Tables.{table-keeps, table-used}
-use Rattle.block.proofs.Walking.{Keeps, keeps-at, keeps-take, fits, part-long, length-saved, length-starts, length-numbers, widths-next, widths-all, saved-next, load-next, number-here, held-next, saved-front-next, start-here}
+use Rattle.block.proofs.Walking.{Keeps, keeps-at, keeps-take, fits, part-long, length-saved, length-starts, length-numbers, widths-next, widths-all, saved-next, load-next, number-here, held-next, saved-front-next, start-here, start-next}
 use Rattle.block.proofs.Zeros.{zero-behind}
 use Rattle.block.specs.Asked.{Fields, cut, Cuts, Places, lowest, highest, Limits, Sized, fresh-bytes, entry-len, held-number, between, held-front, saved-front, saved-numbers, Front}
 use Rattle.block.specs.Block.{width, row-width, part, entry-bits, entry-bytes, within, nv-rows, widths, saved, load-rows, all-zero}
@@ -66,10 +66,9 @@ module _ (f : Row → ℕ) (l : List ℕ) (are : l ≡ map f nv) where
   column-at : (i : ℕ) → i < nv-count → getD l i 0 ≡ f (at-nv i)
   column-at i h = ap (λ (x : List ℕ). getD x i 0) are ∙ map-at f nv i (omega (arith, nv-length))
 
-module _ {kinds ats widths : List ℕ} (lent : Fields kinds ats widths) where
-  pub fields-long : (length kinds ≡ nv-count) × (length ats ≡ nv-count) × (length widths ≡ nv-count)
-  fields-long =
-      (column-long (λ (r : Row). r .kind) kinds (lent .kinds-are), ap length (lent .ats-are) ∙ length-starts 8 nv ∙ nv-length, column-long (λ (r : Row). row-width r) widths (lent .widths-are))
+pub fields-long : {kinds ats : List ℕ} → Fields kinds ats → (length kinds ≡ nv-count) × (length ats ≡ nv-count + 1)
+fields-long {kinds} {ats} lent =
+    (column-long (λ (r : Row). r .kind) kinds (lent .kinds-are), ap length (lent .ats-are) ∙ length-starts 8 nv ∙ ap suc nv-length)
 
 pub places-long : (places : List ℕ) → Places places → length places ≡ nv-count
 places-long places are = column-long (λ (r : Row). r .place) places are
@@ -89,16 +88,28 @@ pub record Here (i kind at width : ℕ) : Type 0 where
   pub at-is : at ≡ 8 + widths (take i nv)
   pub width-is : width ≡ row-width (at-nv i)
 
-pub here : {kinds ats widths : List ℕ} → Fields kinds ats widths → (i : ℕ) → i < nv-count → {at width : ℕ} → at ≡ getD ats i 0 → width ≡ getD widths i 0 → Here i (getD kinds i 0) at width
-here {kinds} {ats} {widths} lent i h e f =
-    record {
-      there = h;
-      kind-is = column-at (λ (r : Row). r .kind) kinds (lent .kinds-are) i h;
-      at-is = e ∙ ap (λ (x : List ℕ). getD x i 0) (lent .ats-are) ∙ start-here nv i (omega (arith, nv-length)) 8;
-      width-is = f ∙ column-at (λ (r : Row). row-width r) widths (lent .widths-are) i h;
-    }
+module _ {kinds ats : List ℕ} (lent : Fields kinds ats) (i : ℕ) (h : i < nv-count) {at next : ℕ} (e : at ≡ getD ats i 0) (f : next ≡ getD ats (i + 1) 0) where
+  begins : at ≡ 8 + widths (take i nv)
+  begins = e ∙ ap (λ (x : List ℕ). getD x i 0) (lent .ats-are) ∙ start-here nv i (omega (arith, nv-length)) 8
 
--- the same without the widths, and the bits that are looked at
+  ends : next ≡ at + row-width (at-nv i)
+  ends =
+      f ∙ ap (λ (x : List ℕ). getD x (i + 1) 0) (lent .ats-are)
+      ∙ omega (arith, start-next nv i (omega (arith, nv-length)) 8, widths-next nv i (omega (arith, nv-length)), begins)
+
+  pub here : Here i (getD kinds i 0) at (next - at)
+  here =
+      record {
+        there = h;
+        kind-is = column-at (λ (r : Row). r .kind) kinds (lent .kinds-are) i h;
+        at-is = begins;
+        width-is = omega (arith, ends);
+      }
+
+  pub rising : at ≤ next
+  rising = omega (arith, ends)
+
+-- the same by the bits that are looked at
 pub seen : {kinds ats cuts : List ℕ} → Cuts kinds ats cuts → (i : ℕ) → i < nv-count → {at : ℕ} → at ≡ getD ats i 0 → Here i (getD kinds i 0) at (row-width (at-nv i))
 seen {kinds} {ats} {cuts} lent i h e =
     record {
@@ -111,9 +122,9 @@ seen {kinds} {ats} {cuts} lent i h e =
 pub cut-at : {kinds ats cuts : List ℕ} → Cuts kinds ats cuts → (i : ℕ) → i < nv-count → getD cuts i 0 ≡ cut (at-nv i)
 cut-at {kinds} {ats} {cuts} lent i h = column-at cut cuts (lent .cuts-are) i h
 
-pub cuts-long : {kinds ats cuts : List ℕ} → Cuts kinds ats cuts → (length kinds ≡ nv-count) × (length ats ≡ nv-count) × (length cuts ≡ nv-count)
+pub cuts-long : {kinds ats cuts : List ℕ} → Cuts kinds ats cuts → (length kinds ≡ nv-count) × (length ats ≡ nv-count + 1) × (length cuts ≡ nv-count)
 cuts-long {kinds} {ats} {cuts} lent =
-    (column-long (λ (r : Row). r .kind) kinds (lent .kinds-are), ap length (lent .ats-are) ∙ length-starts 8 nv ∙ nv-length, column-long cut cuts (lent .cuts-are))
+    (column-long (λ (r : Row). r .kind) kinds (lent .kinds-are), ap length (lent .ats-are) ∙ length-starts 8 nv ∙ ap suc nv-length, column-long cut cuts (lent .cuts-are))
 
 module _ {i kind at width' : ℕ} (g : Here i kind at width') where
   inside : i < length nv

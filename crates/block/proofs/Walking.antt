@@ -155,13 +155,14 @@ unfolding saved-numbers
 length-numbers bs at [] = refl
 length-numbers bs at (r ∷ rs) = ap suc (length-numbers bs (at + row-width r) rs)
 
-starts-at : (at : ℕ) (rs : List Row) (i : ℕ) → i < length rs → getD (starts at rs) i 0 ≡ at + widths (take i rs)
+starts-at : (at : ℕ) (rs : List Row) (i : ℕ) → i ≤ length rs → getD (starts at rs) i 0 ≡ at + widths (take i rs)
 unfolding starts widths
-starts-at at [] i h = absurd (not-suc-le-zero h)
+starts-at at [] zero h = sym (add-zero at)
+starts-at at [] (suc i) h = absurd (not-suc-le-zero h)
 starts-at at (r ∷ rs) zero h = sym (add-zero at)
 starts-at at (r ∷ rs) (suc i) h = starts-at (at + row-width r) rs i (le-of-suc-le-suc h) ∙ add-assoc at (row-width r) (widths (take i rs))
 
-pub length-starts : (at : ℕ) (rs : List Row) → length (starts at rs) ≡ length rs
+pub length-starts : (at : ℕ) (rs : List Row) → length (starts at rs) ≡ suc (length rs)
 unfolding starts
 length-starts at [] = refl
 length-starts at (r ∷ rs) = ap suc (length-starts (at + row-width r) rs)
@@ -249,4 +250,7 @@ module _ (rs : List Row) (i : ℕ) (h : i < length rs) where
   saved-front-next bs at e = ap (saved-front bs at) left-over ∙ ap (λ (x : Bool). cond x (suc (saved-front bs (at + row-width here) (drop (i + 1) rs))) 0) e
 
   pub start-here : (at : ℕ) → getD (starts at rs) i 0 ≡ at + widths (take i rs)
-  start-here at = starts-at at rs i h
+  start-here at = starts-at at rs i (omega arith)
+
+  pub start-next : (at : ℕ) → getD (starts at rs) (i + 1) 0 ≡ at + widths (take (i + 1) rs)
+  start-next at = starts-at at rs (i + 1) (omega arith)

@@ -15,15 +15,14 @@ use Rattle.wire.specs.Little.{number}
 
 -- ---- the columns of the NV rows
 
--- the bit at which each entry begins, the first at bit at
+-- the bit at which each entry begins, the first at bit at, and the bit behind the last
 unfoldable pub starts : ℕ → List Row → List ℕ
-starts at [] = []
+starts at [] = at ∷ []
 starts at (r ∷ rs) = at ∷ starts (at + row-width r) rs
 
-pub record Fields (kinds ats widths : List ℕ) : Type 0 where
+pub record Fields (kinds ats : List ℕ) : Type 0 where
   pub kinds-are : kinds ≡ map (λ (r : Row). r .kind) nv
   pub ats-are : ats ≡ starts 8 nv
-  pub widths-are : widths ≡ map (λ (r : Row). row-width r) nv
 
 -- the bits that are looked at as a number: of a string the first 32, which no limit refuses
 unfoldable pub cut : Row → ℕ

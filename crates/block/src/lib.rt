@@ -156,19 +156,18 @@ fn take_entries(
     n: usize,
     kinds: &[u8],
     ats: &[u16],
-    widths: &[u16],
     places: &[u16],
     numbers: &[u32; columns::NV_ROWS],
     block: &[u8],
     values: &mut [u8],
 )
-    requires { ⌜ (n ≤ nv-count) × Fields (now kinds) (now ats) (now widths) × Places (now places) × Front (bits (now block)) (now numbers) n × (length (now block) ≡ 512) × (length (now values) ≡ 1024) ⌝ }
+    requires { ⌜ (n ≤ nv-count) × Fields (now kinds) (now ats) × Places (now places) × Front (bits (now block)) (now numbers) n × (length (now block) ≡ 512) × (length (now values) ≡ 1024) ⌝ }
     ensures { λ _. ⌜ now (values .exit) ≡ load-rows (bits (now (block .entry))) 8 (take n nv) (now (values .entry)) ⌝ }
 {
     let mut i = 0;
     while i < n {
         let at = wide::pair_to_usize(ats[i]);
-        let width = wide::pair_to_usize(widths[i]);
+        let width = wide::pair_to_usize(ats[i + 1]) - at;
         let place = wide::pair_to_usize(places[i]);
         take_entry(block, at, kinds[i], width, numbers[i], values, place);
         i += 1;
@@ -179,14 +178,13 @@ fn take_entries(
 fn save_entries(
     kinds: &[u8],
     ats: &[u16],
-    widths: &[u16],
     places: &[u16],
     lows: &[u32],
     highs: &[u32],
     values: &[u8],
     block: &mut [u8],
 ) -> usize
-    requires { ⌜ Fields (now kinds) (now ats) (now widths) × Places (now places) × Limits (now lows) (now highs) × (length (now values) ≡ 1024) × (length (now block) ≡ fresh-bytes) × (all-zero (drop 8 (bits (now block))) ≡ true) ⌝ }
+    requires { ⌜ Fields (now kinds) (now ats) × Places (now places) × Limits (now lows) (now highs) × (length (now values) ≡ 1024) × (length (now block) ≡ fresh-bytes) × (all-zero (drop 8 (bits (now block))) ≡ true) ⌝ }
     ensures { λ r. ⌜ (r ≡ held-front (now (values .entry)) nv) × (bits (now (block .exit)) ≡ splice (bits (now (block .entry))) 8 (saved (now (values .entry)) (take r nv))) ⌝ }
 {
     let mut i = 0;
@@ -199,7 +197,7 @@ fn save_entries(
             return i;
         }
         let at = wide::pair_to_usize(ats[i]);
-        let width = wide::pair_to_usize(widths[i]);
+        let width = wide::pair_to_usize(ats[i + 1]) - at;
         save_entry(values, place, kind, v, block, at, width);
         i += 1;
     }
@@ -270,7 +268,6 @@ fn entries_taken(
 fn load_by(
     kinds: &[u8],
     ats: &[u16],
-    widths: &[u16],
     cuts: &[u8],
     places: &[u16],
     lows: &[u32],
@@ -278,12 +275,12 @@ fn load_by(
     block: &[u8],
     values: &mut [u8],
 ) -> bool
-    requires { ⌜ Fields (now kinds) (now ats) (now widths) × Cuts (now kinds) (now ats) (now cuts) × Places (now places) × Limits (now lows) (now highs) × (length (now values) ≡ 1024) × (length (now block) ≡ 512) ⌝ }
+    requires { ⌜ Fields (now kinds) (now ats) × Cuts (now kinds) (now ats) (now cuts) × Places (now places) × Limits (now lows) (now highs) × (length (now values) ≡ 1024) × (length (now block) ≡ 512) ⌝ }
     ensures { λ r. ⌜ (r ≡ loadable (now (block .entry))) × (now (values .exit) ≡ loaded (now (block .entry)) (now (values .entry))) ⌝ }
 {
     let mut numbers = [0u32; columns::NV_ROWS];
     let n = entries_taken(kinds, ats, cuts, lows, highs, block, &mut numbers);
-    take_entries(n, kinds, ats, widths, places, &numbers, block, values);
+    take_entries(n, kinds, ats, places, &numbers, block, values);
     0 < n
 }
 
@@ -291,19 +288,18 @@ fn load_by(
 fn fill_block(
     kinds: &[u8],
     ats: &[u16],
-    widths: &[u16],
     places: &[u16],
     lows: &[u32],
     highs: &[u32],
     values: &[u8],
     block: &mut [u8],
 ) -> usize
-    requires { ⌜ Fields (now kinds) (now ats) (now widths) × Places (now places) × Limits (now lows) (now highs) × (length (now values) ≡ 1024) × (now block ≡ replicate fresh-bytes 0) ⌝ }
+    requires { ⌜ Fields (now kinds) (now ats) × Places (now places) × Limits (now lows) (now highs) × (length (now values) ≡ 1024) × (now block ≡ replicate fresh-bytes 0) ⌝ }
     ensures { λ r. ⌜ (r ≡ held-front (now (values .entry)) nv) × (bits (now (block .exit)) ≡ splice (splice (splice (bits (replicate fresh-bytes 0)) 0 (msb 4 LAYOUT)) 4 (msb 4 BAG552)) 8 (saved (now (values .entry)) (take r nv))) ⌝ }
 {
     bits::put_field(block, 0, 4, LAYOUT);
     bits::put_field(block, 4, 4, MODEL);
-    save_entries(kinds, ats, widths, places, lows, highs, values, block)
+    save_entries(kinds, ats, places, lows, highs, values, block)
 }
 
 // A fresh block, and zeros behind it.
@@ -318,18 +314,17 @@ fn write_block(fresh: &[u8; FRESH], block: &mut [u8])
 fn store_by(
     kinds: &[u8],
     ats: &[u16],
-    widths: &[u16],
     places: &[u16],
     lows: &[u32],
     highs: &[u32],
     values: &[u8],
     block: &mut [u8],
 ) -> bool
-    requires { ⌜ Fields (now kinds) (now ats) (now widths) × Places (now places) × Limits (now lows) (now highs) × (length (now values) ≡ 1024) × (length (now block) ≡ 512) ⌝ }
+    requires { ⌜ Fields (now kinds) (now ats) × Places (now places) × Limits (now lows) (now highs) × (length (now values) ≡ 1024) × (length (now block) ≡ 512) ⌝ }
     ensures { λ r. ⌜ (r ≡ storable (now (values .entry))) × (now (block .exit) ≡ stored (now (values .entry)) (now (block .entry))) ⌝ }
 {
     let mut fresh = [0u8; FRESH];
-    let n = fill_block(kinds, ats, widths, places, lows, highs, values, &mut fresh);
+    let n = fill_block(kinds, ats, places, lows, highs, values, &mut fresh);
     if n < columns::NV_ROWS {
         return false;
     }
@@ -363,7 +358,6 @@ pub fn store(values: &[u8], block: &mut [u8]) -> bool
     store_by(
         &columns::NV_KIND,
         &columns::NV_AT,
-        &columns::NV_WIDTH,
         &columns::NV_PLACE,
         &columns::NV_LOW,
         &columns::NV_HIGH,
@@ -380,7 +374,6 @@ pub fn load(block: &[u8], values: &mut [u8]) -> bool
     load_by(
         &columns::NV_KIND,
         &columns::NV_AT,
-        &columns::NV_WIDTH,
         &columns::NV_CUT,
         &columns::NV_PLACE,
         &columns::NV_LOW,

@@ -1,8 +1,9 @@
 // The object table as flat constant arrays. tools/table.py writes this file from docs/object-table.md.
 // LIMITS has for each row the number of its limits in MINIMUM and MAXIMUM: few pairs serve all rows, and a column that is
 // read is laid out on the stack, so columns are narrow. WORD_PLACE and WORD have the words that make the defaults out of zeros.
-// NV_.. has the NV rows alone: where the saved block has each entry and how wide, and its limits as places in the order of its type.
-// NV_CUT has the bits that are looked at as a number: of a string the first 32, which its NV_LOW and NV_HIGH do not refuse.
+// NV_.. has the NV rows alone: the bit of the saved block at which each entry begins (and the last ends), and its limits as places in
+// the order of its type. NV_CUT has the bits that are looked at as a number: of a string the first 32, which its NV_LOW and NV_HIGH do
+// not refuse.
 pub const ROWS: usize = 129;
 
 pub const NV_ROWS: usize = 38;
@@ -1317,7 +1318,7 @@ pub const NV_KIND: [u8; 38] = [
     3,
 ];
 
-pub const NV_AT: [u16; 38] = [
+pub const NV_AT: [u16; 39] = [
     8,
     264,
     265,
@@ -1356,47 +1357,7 @@ pub const NV_AT: [u16; 38] = [
     1142,
     1174,
     1182,
-];
-
-pub const NV_WIDTH: [u16; 38] = [
-    256,
-    1,
-    1,
-    8,
-    32,
-    1,
-    1,
-    32,
-    32,
-    32,
-    32,
-    32,
-    32,
-    32,
-    32,
-    32,
-    1,
-    1,
-    32,
-    32,
-    32,
-    32,
-    32,
-    32,
-    32,
-    32,
-    32,
-    32,
-    32,
-    32,
-    32,
-    32,
-    32,
-    32,
-    32,
-    32,
-    8,
-    32,
+    1214,
 ];
 
 pub const NV_CUT: [u8; 38] = [

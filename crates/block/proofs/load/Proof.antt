@@ -26,14 +26,11 @@ slice-aggregate-load-by-5 c = search needs
 slice-aggregate-load-by-6 : tie.Need-slice-aggregate-load-by-6
 slice-aggregate-load-by-6 c = search needs
 
-slice-aggregate-load-by-7 : tie.Need-slice-aggregate-load-by-7
-slice-aggregate-load-by-7 c = search needs
-
 load-by-requires : tie.Need-load-by-requires
 unfolding rows nv-rows width starts cut rank real-rank pick lowest highest
 load-by-requires c κs =
-    let b = c .before .before .before .before .before .before .before .before .before .before in
-    (record { kinds-are = refl; ats-are = refl; widths-are = refl }, record { kinds-are = refl; ats-are = refl; cuts-are = refl }, refl, record { lows-are = refl; highs-are = refl }, b .pre .0, b .pre .1)
+    let b = c .before .before .before .before .before .before .before .before .before in
+    (record { kinds-are = refl; ats-are = refl }, record { kinds-are = refl; ats-are = refl; cuts-are = refl }, refl, record { lows-are = refl; highs-are = refl }, b .pre .0, b .pre .1)
 
 same-length : tie.Need-same-length
 same-length c = search needs
@@ -51,7 +48,6 @@ load-spec =
     slice-aggregate-load-by-4
     slice-aggregate-load-by-5
     slice-aggregate-load-by-6
-    slice-aggregate-load-by-7
     load-by-requires
     same-length
     returns)

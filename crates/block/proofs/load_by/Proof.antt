@@ -12,7 +12,7 @@ entries-taken-requires c κs = search needs
 
 take-entries-requires : tie.Need-take-entries-requires
 take-entries-requires c κs =
-    let b = c .before .before .before .before .before .before .before .before .before .before .before .before .before .before in
+    let b = c .before .before .before .before .before .before .before .before .before .before .before .before .before in
     let a = b .args in
     (taken-most (a .block .now) (c .before .before .before .entries-taken .ensures .0), b .pre .0, b .pre .2, c .before .before .before .entries-taken .ensures .1, b .pre .5, b .pre .4)
 
@@ -21,7 +21,7 @@ same-length c = search needs
 
 returns : tie.Need-returns
 returns c =
-    let b = c .before .before .before .before .before .before .before .before .before .before .before .before .before .before .before .before .before in
+    let b = c .before .before .before .before .before .before .before .before .before .before .before .before .before .before .before .before in
     let a = b .args in
     load-done (a .block .now) (a .values .now) (c .before .before .before .before .before .before .entries-taken .ensures .0) (c .before .before .take-entries .ensures)
 

@@ -23,14 +23,11 @@ slice-aggregate-store-by-4 c = search needs
 slice-aggregate-store-by-5 : tie.Need-slice-aggregate-store-by-5
 slice-aggregate-store-by-5 c = search needs
 
-slice-aggregate-store-by-6 : tie.Need-slice-aggregate-store-by-6
-slice-aggregate-store-by-6 c = search needs
-
 store-by-requires : tie.Need-store-by-requires
 unfolding rows nv-rows width starts rank real-rank pick lowest highest
 store-by-requires c κs =
-    let b = c .before .before .before .before .before .before .before .before .before in
-    (record { kinds-are = refl; ats-are = refl; widths-are = refl }, refl, record { lows-are = refl; highs-are = refl }, b .pre .0, b .pre .1)
+    let b = c .before .before .before .before .before .before .before .before in
+    (record { kinds-are = refl; ats-are = refl }, refl, record { lows-are = refl; highs-are = refl }, b .pre .0, b .pre .1)
 
 same-length : tie.Need-same-length
 same-length c = search needs
@@ -47,7 +44,6 @@ store-spec =
     slice-aggregate-store-by-3
     slice-aggregate-store-by-4
     slice-aggregate-store-by-5
-    slice-aggregate-store-by-6
     store-by-requires
     same-length
     returns)

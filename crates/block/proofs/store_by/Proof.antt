@@ -14,7 +14,7 @@ fill-block-requires c κs = search needs
 
 returns : tie.Need-returns
 returns c =
-    let b = c .before .before .before .before .before .before .before .before .before .before .before .before in
+    let b = c .before .before .before .before .before .before .before .before .before .before .before in
     let a = b .args in
     store-refused (a .values .now) (a .block .now) (c .before .before .fill-block .ensures .0) (c .if1 .taken)
 
@@ -26,7 +26,7 @@ same-length c = search needs
 
 returns-2 : tie.Need-returns-2
 returns-2 c =
-    let b = c .before .before .before .before .before .before .before .before .before .before .before .before .before .before .before .before .before in
+    let b = c .before .before .before .before .before .before .before .before .before .before .before .before .before .before .before .before in
     let a = b .args in
     store-done (a .values .now) (a .block .now) (c .before .before .before .before .before .before .before .fill-block .ensures .0) (omega arith) (b .pre .3) _ (c .before .before .before .before .before .before .before .fill-block .ensures .1) (c .before .before .write-block .ensures) (λ k. (c .slice-known2 .given k) .fits) (c .before .before .write-block .kept .1 .0 ∙ b .pre .4)
 

@@ -4,58 +4,67 @@ use Prim.Native.Nat.{ℕ, _-_, _≤_}
 use native.Mathlib.Omega.{arith}
 use lib.ListN.{length, take}
 use Rattle.bits.specs.Bits.{bits}
-use Rattle.block.proofs.Turns.{fields-long, places-long, place-at, here, room, sized-here, width-here, number-known, take-turn}
+use Rattle.block.proofs.Turns.{fields-long, places-long, place-at, here, rising, room, sized-here, width-here, number-known, take-turn}
 use Rattle.block.proofs.take_entries.Statement.{statement}
 use Rattle.block.specs.Block.{load-rows}
 use Rattle.block.specs.Saved.{nv}
 use Rattle.block.proofs.take_entries.Tie as tie
 
 abbrev Inv-loop : tie.InvT-loop
-Inv-loop n kinds ats widths places numbers block values₀ i₀ values i = (i ≤ n) × (length values ≡ 1024) × (values ≡ load-rows (bits block) 8 (take i nv) values₀)
+Inv-loop n kinds ats places numbers block values₀ i₀ values i = (i ≤ n) × (length values ≡ 1024) × (values ≡ load-rows (bits block) 8 (take i nv) values₀)
 
 abbrev μ-loop : tie.MeasureT-loop
-μ-loop n kinds ats widths places numbers block values₀ i₀ values i = n - i
+μ-loop n kinds ats places numbers block values₀ i₀ values i = n - i
 
 loop-holds : tie.Need-loop-holds Inv-loop μ-loop
 unfolding load-rows
 loop-holds c =
-    let b = c .before .before .before .before .before .before in
+    let b = c .before .before .before .before .before in
     (omega arith, b .pre .5, refl)
 
 mul-pair-to-usize : tie.Need-mul-pair-to-usize Inv-loop μ-loop
 mul-pair-to-usize c =
-    let b = c .before .before .before .before .before .before .before .before in
+    let b = c .before .before .before .before .before .before .before in
     omega (arith, fields-long (b .pre .1), places-long _ (b .pre .2))
 
 shared-slice-read-pair-to-usize : tie.Need-shared-slice-read-pair-to-usize Inv-loop μ-loop
 shared-slice-read-pair-to-usize c =
-    let b = c .before .before .before .before .before .before .before .before .before in
+    let b = c .before .before .before .before .before .before .before .before in
     omega (arith, fields-long (b .pre .1), places-long _ (b .pre .2))
 
 pair-to-usize-requires : tie.Need-pair-to-usize-requires Inv-loop μ-loop
 pair-to-usize-requires c κs = omega arith
 
+add-pair-to-usize : tie.Need-add-pair-to-usize Inv-loop μ-loop
+add-pair-to-usize c = omega arith
+
 mul-pair-to-usize-2 : tie.Need-mul-pair-to-usize-2 Inv-loop μ-loop
 mul-pair-to-usize-2 c =
-    let b = c .before .before .before .before .before .before .before .before .before .before in
+    let b = c .before .before .before .before .before .before .before .before .before in
     omega (arith, fields-long (b .pre .1), places-long _ (b .pre .2))
 
 shared-slice-read-pair-to-usize-2 : tie.Need-shared-slice-read-pair-to-usize-2 Inv-loop μ-loop
 shared-slice-read-pair-to-usize-2 c =
-    let b = c .before .before .before .before .before .before .before .before .before .before .before in
+    let b = c .before .before .before .before .before .before .before .before .before .before in
     omega (arith, fields-long (b .pre .1), places-long _ (b .pre .2))
 
 pair-to-usize-requires-2 : tie.Need-pair-to-usize-requires-2 Inv-loop μ-loop
 pair-to-usize-requires-2 c κs = omega arith
 
+sub-width : tie.Need-sub-width Inv-loop μ-loop
+sub-width c =
+    let b = c .before .before .before .before .before .before .before .before .before .before .before in
+    let l = c .before .before .before .before .before .loop in
+    rising (b .pre .1) (l .i) (omega arith) (c .before .before .pair-to-usize .ensures .0) (c .pair-to-usize2 .ensures .0)
+
 mul-pair-to-usize-3 : tie.Need-mul-pair-to-usize-3 Inv-loop μ-loop
 mul-pair-to-usize-3 c =
-    let b = c .before .before .before .before .before .before .before .before .before .before .before .before in
+    let b = c .before .before .before .before .before .before .before .before .before .before .before in
     omega (arith, fields-long (b .pre .1), places-long _ (b .pre .2))
 
 shared-slice-read-pair-to-usize-3 : tie.Need-shared-slice-read-pair-to-usize-3 Inv-loop μ-loop
 shared-slice-read-pair-to-usize-3 c =
-    let b = c .before .before .before .before .before .before .before .before .before .before .before .before .before in
+    let b = c .before .before .before .before .before .before .before .before .before .before .before .before in
     omega (arith, fields-long (b .pre .1), places-long _ (b .pre .2))
 
 pair-to-usize-requires-3 : tie.Need-pair-to-usize-requires-3 Inv-loop μ-loop
@@ -63,12 +72,12 @@ pair-to-usize-requires-3 c κs = omega arith
 
 shared-slice-read-take-entry : tie.Need-shared-slice-read-take-entry Inv-loop μ-loop
 shared-slice-read-take-entry c =
-    let b = c .before .before .before .before .before .before .before .before .before .before .before .before .before .before .before in
+    let b = c .before .before .before .before .before .before .before .before .before .before .before .before .before .before in
     omega (arith, fields-long (b .pre .1), places-long _ (b .pre .2))
 
 mul-take-entry : tie.Need-mul-take-entry Inv-loop μ-loop
 mul-take-entry c =
-    let b = c .before .before .before .before .before .before .before .before .before .before .before .before .before .before .before in
+    let b = c .before .before .before .before .before .before .before .before .before .before .before .before .before .before in
     omega (arith, fields-long (b .pre .1), places-long _ (b .pre .2))
 
 element-copy-out-take-entry : tie.Need-element-copy-out-take-entry Inv-loop μ-loop
@@ -76,7 +85,7 @@ element-copy-out-take-entry c = omega arith
 
 take-entry-requires : tie.Need-take-entry-requires Inv-loop μ-loop
 take-entry-requires c κs =
-    let b = c .before .before .before .before .before .before .before .before .before .before .before .before .before .before .before .before .before in
+    let b = c .before .before .before .before .before .before .before .before .before .before .before .before .before .before .before .before in
     let a = b .args in
     let l = c .before .before .before .before .before .before .before .before .before .before .loop in
     let g = here (b .pre .1) (l .i) (omega arith) (c .before .before .before .before .before .before .before .pair-to-usize .ensures .0) (c .before .before .before .before .before .pair-to-usize2 .ensures .0) in
@@ -91,7 +100,7 @@ loop-less c = omega arith
 
 loop-again : tie.Need-loop-again Inv-loop μ-loop
 loop-again c =
-    let b = c .before .before .before .before .before .before .before .before .before .before .before .before .before .before .before .before .before .before .before .before in
+    let b = c .before .before .before .before .before .before .before .before .before .before .before .before .before .before .before .before .before .before .before in
     let a = b .args in
     let l = c .before .before .before .before .before .before .before .before .before .before .before .before .before .loop in
     let g = here (b .pre .1) (l .i) (omega arith) (c .before .before .before .before .before .before .before .before .before .before .pair-to-usize .ensures .0) (c .before .before .before .before .before .before .before .before .pair-to-usize2 .ensures .0) in
@@ -100,11 +109,11 @@ loop-again c =
 
 same-length : tie.Need-same-length Inv-loop μ-loop
 same-length c =
-    c .before .loop .inv .1 ∙ sym (c .before .before .before .before .before .before .before .before .pre .5)
+    c .before .loop .inv .1 ∙ sym (c .before .before .before .before .before .before .before .pre .5)
 
 returns : tie.Need-returns Inv-loop μ-loop
 returns c =
-    let b = c .before .before .before .before .before .before .before .before in
+    let b = c .before .before .before .before .before .before .before in
     let a = b .args in
     let l = c .before .loop in
     let e : l .i ≡ a .n = omega arith in
@@ -120,9 +129,11 @@ take-entries-spec =
     mul-pair-to-usize
     shared-slice-read-pair-to-usize
     pair-to-usize-requires
+    add-pair-to-usize
     mul-pair-to-usize-2
     shared-slice-read-pair-to-usize-2
     pair-to-usize-requires-2
+    sub-width
     mul-pair-to-usize-3
     shared-slice-read-pair-to-usize-3
     pair-to-usize-requires-3
