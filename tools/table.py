@@ -331,8 +331,8 @@ def columns_rt(rows, end):
 // LIMITS has for each row the number of its limits in MINIMUM and MAXIMUM: few pairs serve all rows, and a column that is
 // read is laid out on the stack, so columns are narrow. WORD_PLACE and WORD have the words that make the defaults out of zeros.
 // NV_.. has the NV rows alone: the bit of the saved block at which each entry begins (and the last ends), and its limits as places in
-// the order of its type.
-// NV_CUT has the bits that are looked at as a number: of a string the first 32, which its NV_LOW and NV_HIGH do not refuse.
+// the order of its type. NV_CUT has the bits that are looked at as a number: of a string the first 32, which its NV_LOW and NV_HIGH do
+// not refuse.
 pub const ROWS: usize = %d;
 
 pub const NV_ROWS: usize = %d;
