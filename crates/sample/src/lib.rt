@@ -2,6 +2,7 @@
 pub mod image;
 
 use table::place;
+use trip::On;
 use trip::Point;
 use trip::Side;
 use trip::Trips;
@@ -43,15 +44,23 @@ fn settings_at(values: &[u8], at: usize) -> Point
     Point { high, low }
 }
 
+// A sample that is not valid turns both points off: no settings are read.
 fn next_trips(values: &[u8], was: Trips, p: f32, valid: u8) -> Trips
     requires { ⌜ length (now values) ≡ 1024 ⌝ }
     ensures { λ r. ⌜ r ≡ trips-after (now (values .entry)) was p valid ⌝ }
 {
-    let first = was.one;
-    let second = was.two;
-    let one = trip::after(settings_at(values, place::SETTINGS_1), first, p, valid);
-    let two = trip::after(settings_at(values, place::SETTINGS_2), second, p, valid);
-    Trips { one, two }
+    if trip::usable(p, valid) {
+        let first = was.one;
+        let second = was.two;
+        let one = trip::next(settings_at(values, place::SETTINGS_1), first, p);
+        let two = trip::next(settings_at(values, place::SETTINGS_2), second, p);
+        return Trips { one, two };
+    }
+    let off = On {
+        high: false,
+        low: false,
+    };
+    Trips { one: off, two: off }
 }
 
 fn put_reading(values: &mut [u8], p: f32, valid: u8)

@@ -1,6 +1,6 @@
 // Trip sides and points by value: how a sample turns them on and off.
 ghost use mathlib.Core.Path.{_≡_};
-ghost use Rattle.trip.specs.Trip.{settled, low-next, high-next, point-next, point-after, usable-pressure};
+ghost use Rattle.trip.specs.Trip.{settled, low-next, high-next, point-next, usable-pressure};
 
 pub struct Side {
     pub level: f32,
@@ -75,17 +75,4 @@ pub fn usable(p: f32, valid: u8) -> bool
         return false;
     }
     p < 1.0 / 0.0
-}
-
-// A point after a sample, valid or not.
-pub fn after(point: Point, was: On, p: f32, valid: u8) -> On
-    ensures { λ r. ⌜ r ≡ point-after point was p valid ⌝ }
-{
-    if usable(p, valid) {
-        return next(point, was, p);
-    }
-    On {
-        high: false,
-        low: false,
-    }
 }
