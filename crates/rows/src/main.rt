@@ -76,10 +76,11 @@ fn print_limits(row: usize, len: usize)
         write_all(STDOUT_FILENO, b" - - -\n");
         return;
     }
+    let both = field::limits_of(row);
     write_all(STDOUT_FILENO, b" ");
-    print_hex(field::low_of(row), 2 * len);
+    print_hex(both.low, 2 * len);
     write_all(STDOUT_FILENO, b" ");
-    print_hex(field::high_of(row), 2 * len);
+    print_hex(both.high, 2 * len);
     write_all(STDOUT_FILENO, b" ");
     print_hex(field::def_of(row), 2 * len);
     write_all(STDOUT_FILENO, b"\n");

@@ -57,8 +57,12 @@ module _ (r i : ℕ) (b : Bool) (e : b ≡ (ltb r row-count && eqb (at-row r .in
 
 -- ---- passing rows over
 
-pub below-more : (r n i s : ℕ) → Below r i s → r + n < row-count → key (at-row (r + n)) < wanted i s → Below (r + n + 1) i s
-below-more r n i s b h g = record { inside = omega arith; none = λ m l. omega (arith, key-rises m (r + n) (omega arith) h) }
+pub hopped : (r n i s : ℕ) → 1 ≤ n → Passed (n + n) r i s → r + n ≤ row-count → key (at-row (r + n - 1)) < wanted i s → Passed n (r + n) i s
+hopped r n i s one p h g =
+    record {
+      below = record { inside = h; none = λ m l. omega (arith, key-rises m (r + n - 1) (omega arith) (omega arith)) };
+      reached = λ q. let e : r + (n + n) - 1 ≡ r + n + n - 1 = omega arith in rw e at (p .reached (omega arith));
+    }
 
 -- ---- where no row is left below the key
 

@@ -93,19 +93,3 @@ pub fn limits_of(row: usize) -> Limits
         high: columns::MAXIMUM[pair],
     }
 }
-
-pub fn low_of(row: usize) -> u64
-    requires { ⌜ row < row-count ⌝ }
-    ensures { λ r. ⌜ r ≡ at-row row .low ⌝ }
-{
-    let both = limits_of(row);
-    both.low
-}
-
-pub fn high_of(row: usize) -> u64
-    requires { ⌜ row < row-count ⌝ }
-    ensures { λ r. ⌜ r ≡ at-row row .high ⌝ }
-{
-    let both = limits_of(row);
-    both.high
-}

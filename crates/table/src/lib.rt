@@ -5,13 +5,13 @@ pub mod place;
 
 ghost use mathlib.Core.Bool.{_&&_};
 ghost use mathlib.Core.Path.{_≡_};
-ghost use Prim.Native.Nat.{_≤_, _<_};
+ghost use Prim.Native.Nat.{_+_, _≤_, _<_};
 ghost use lib.Dec.{eqb, ltb};
 ghost use Rattle.table.specs.Row.{Row};
 ghost use Rattle.table.specs.Rows.{row-count, at-row};
 ghost use Rattle.table.specs.Rule.{key};
 ghost use Rattle.table.specs.Columns.{column, Lent};
-ghost use Rattle.table.specs.Find.{wanted, find-row, Below, Passed};
+ghost use Rattle.table.specs.Find.{wanted, find-row, Passed};
 
 pub const ROWS: usize = columns::ROWS;
 
@@ -33,19 +33,19 @@ fn is_below(indices: &[u16], subs: &[u8], row: usize, index: u16, sub: u8) -> bo
     indices[row] < index
 }
 
-// Keys rise, so step rows are passed over at once while the last of them is below the key.
-fn skip(indices: &[u16], subs: &[u8], from: usize, step: usize, index: u16, sub: u8) -> usize
-    requires { ⌜ Lent (now indices) (now subs) × (1 ≤ step) × (step ≤ row-count) × Below from index sub ⌝ }
+// Keys rise, so step rows are passed over at once if the last of them is below the key. Where a hop of twice the step was refused,
+// one hop is enough.
+fn hop(indices: &[u16], subs: &[u8], from: usize, step: usize, index: u16, sub: u8) -> usize
+    requires { ⌜ Lent (now indices) (now subs) × (1 ≤ step) × (step ≤ 256) × Passed (step + step) from index sub ⌝ }
     ensures { λ r. ⌜ Passed step r index sub ⌝ }
 {
-    let mut row = from;
-    while row + step <= ROWS {
-        if !is_below(indices, subs, row + step - 1, index, sub) {
-            return row;
+    let to = from + step;
+    if to <= ROWS {
+        if is_below(indices, subs, to - 1, index, sub) {
+            return to;
         }
-        row += step;
     }
-    row
+    from
 }
 
 // Has this row the index? There is none past the last.
@@ -79,14 +79,20 @@ fn found_at(indices: &[u16], subs: &[u8], row: usize, index: u16, sub: u8) -> Fo
     Found::NoIndex
 }
 
-// The columns are lent, so that they are laid out once for the whole search.
+// The columns are lent, so that they are laid out once for the whole search. No table has more than 511 rows.
 fn search(indices: &[u16], subs: &[u8], index: u16, sub: u8) -> Found
     requires { ⌜ Lent (now indices) (now subs) ⌝ }
     ensures { λ r. ⌜ r ≡ find-row index sub ⌝ }
 {
-    let far = skip(indices, subs, 0, 16, index, sub);
-    let near = skip(indices, subs, far, 4, index, sub);
-    let row = skip(indices, subs, near, 1, index, sub);
+    let a = hop(indices, subs, 0, 256, index, sub);
+    let b = hop(indices, subs, a, 128, index, sub);
+    let c = hop(indices, subs, b, 64, index, sub);
+    let d = hop(indices, subs, c, 32, index, sub);
+    let e = hop(indices, subs, d, 16, index, sub);
+    let f = hop(indices, subs, e, 8, index, sub);
+    let g = hop(indices, subs, f, 4, index, sub);
+    let h = hop(indices, subs, g, 2, index, sub);
+    let row = hop(indices, subs, h, 1, index, sub);
     found_at(indices, subs, row, index, sub)
 }
 
