@@ -5,10 +5,10 @@ use mathlib.Core.List.{List, []}
 use mathlib.Core.Option.{Option, none, some}
 use Prim.Native.Nat.{ℕ, _+_, _<_}
 use native.Mathlib.Omega.{arith}
-use lib.Dec.{eqb, ltb, leb}
+use lib.Dec.{ltb, leb}
 use lib.ListN.{length, take, drop}
 use borrow.Author.Tests.{ltb-false, leb-true, ne-eqb}
-use Rattle.order.specs.Talk.{Said, announced, unsaid, own, openRead, openWrite, expedited, Read, value, denied, Sizes, sizes, closed, refused, Outcome, stored, restarted, declined}
+use Rattle.order.specs.Talk.{Said, announced, unsaid, own, openRead, openWrite, expedited, value, Sizes, sizes, closed, refused, Outcome, stored, restarted, declined}
 use Rattle.order.specs.Gauge.{tooLong, tooShort, narrowed, counted, say}
 use Rattle.table.specs.Row.{RO, WO}
 use Rattle.table.specs.Rows.{at-row, row-count}
@@ -16,8 +16,9 @@ use Rattle.table.specs.Find.{find-row}
 use Rattle.table.specs.Rule.{pick}
 use Rattle.table.specs.declared.Found.the-variants.{At}
 use Rattle.table.proofs.Table.{find-at, row-found}
+use Rattle.trip.specs.Trip.{all-off}
 use Rattle.gauge.specs.Gates.{gate, read-gate, write-gate, read-only, write-only, sizes-of, smallest, largest}
-use Rattle.gauge.specs.Memory.{Memory, Store}
+use Rattle.gauge.specs.Memory.{Memory, Store, memory-of}
 use Rattle.gauge.specs.Whole.{value-of, read-through, read-whole, commit-row, with-trips, commit-through, commit-whole, write-sizes}
 use Rattle.gauge.specs.declared.gate.Gate.{Gate}
 use Rattle.gauge.specs.declared.gate.Gate.the-variants.{Open, Shut}
@@ -29,16 +30,26 @@ use Rattle.sdo.specs.declared.Transfer.{Transfer}
 use Rattle.sdo.specs.declared.Message.{Message}
 use Rattle.sdo.specs.declared.Message.the-variants.{SendPart, WriteSized, WriteOwn, OpenAnnounced, OpenUnsaid, OpenRead, NextPart, GiveUp, Unknown}
 use Rattle.sdo.specs.Eight.{messageOf, asked, askOf, answerOf}
-use Rattle.sdo.specs.Records.{allZero, keyAt, allows, counts, speak}
+use Rattle.sdo.specs.Records.{Spoken, allZero, keyAt, allows, counts, speak}
 use Rattle.sdo.specs.Replies.{Act, Done, Commit, Reply, ending, is-reading, is-writing, givenReply, nextPartReply, takenReply, sendPartReply, openReadReply, openWriteBy, openWriteReply, expeditedBy, expeditedReply, filled, concluded, actedBy}
 use Rattle.sdo.specs.Lines.{short}
 use Rattle.sdo.proofs.RecordLaws.{Whole, counts-fits}
 use Rattle.sdo.proofs.ReplyLaws.{ask-is}
 use Rattle.sdo.proofs.SpeakLaws.{speak-next-part, speak-send-part, speak-give-up, speak-unknown, speak-read-denied, speak-write-closed, speak-expedited-closed, speak-open-read, speak-open-write, speak-expedited}
 use Rattle.board.specs.Gauge.{bag552}
-use Rattle.board.specs.Answering.{through, open-read, open-write, reply-to, act-by, spoken-by}
-use Rattle.board.specs.Answering as line
-use Rattle.board.proofs.Doors.{Opened, opened}
+use Rattle.line.specs.Answering.{through, open-read, open-write, reply-to, Acted, act-by}
+use Rattle.line.specs.Answering as line
+use Rattle.line.proofs.Doors.{Opened, opened}
+
+-- what is left, as `speak` says it, with the trip states: "trips off" after a device reset
+unfoldable pub spoken-by : Store → Acted → Spoken Store
+spoken-by g a =
+    record {
+      store = record { memory = memory-of (a .values) (a .block); trips = cond (a .reset) all-off (g .trips) };
+      next = a .next;
+      reset = a .reset;
+      bytes = a .eight;
+    }
 
 -- ---- only a whole value of a row that may be written is committed
 
