@@ -18,8 +18,10 @@ use Rattle.gauge.specs.declared.commit.Ending.{Ending}
 use Rattle.gauge.specs.declared.commit.Ending.the-variants.{Accepted, Restarted, Refused}
 use Rattle.sdo.specs.declared.Key.{Key}
 use Rattle.sdo.specs.declared.Transfer.{Transfer}
+use Rattle.sdo.specs.declared.Opening.{Opening}
+use Rattle.sdo.specs.declared.Opening.the-variants.{Value, Own, Announced, Unsaid}
 use Rattle.sdo.specs.declared.Message.{Message}
-use Rattle.sdo.specs.declared.Message.the-variants.{SendPart, WriteSized, WriteOwn, OpenAnnounced, OpenUnsaid, OpenRead, NextPart, GiveUp, Unknown}
+use Rattle.sdo.specs.declared.Message.the-variants.{SendPart, OpenWrite, OpenRead, NextPart, GiveUp, Unknown}
 use Rattle.sdo.specs.Eight.{answerOf}
 use Rattle.sdo.specs.Records.{allZero, keyAt}
 use Rattle.sdo.specs.Replies.{Act, Done, Commit, Reply, ending, nextPartReply, sendPartReply, filled, openReadReply, openWriteReply, expeditedReply}
@@ -30,32 +32,21 @@ unfoldable pub through : Gate → Key → (ℕ → Reply) → Reply
 through (Open row) k opening = opening row
 through (Shut code) k opening = ending (answerOf (refused k code))
 
-abbrev pub to-write : Key → (ℕ → Reply) → Reply
-to-write k opening = through (write-gate (find-row (k .index) (k .sub))) k opening
-
 -- a read is opened: the value as it is now
 unfoldable pub open-read : List ℕ → ℕ → Reply
 open-read values row = openReadReply row (filled (value-of (at-row row) values)) (at-row row .len)
 
 -- a write is opened on its row: with the value in the message or without, with a length or not
-unfoldable pub open-write : Message → List ℕ → ℕ → Reply
-open-write (WriteSized k n) m row = expeditedReply row (announced n) (take n (drop 4 m))
-open-write (WriteOwn k) m row = expeditedReply row own (take 4 (drop 4 m))
-open-write (OpenAnnounced k n) m row = openWriteReply row (announced n)
-open-write (OpenUnsaid k) m row = openWriteReply row unsaid
-open-write (SendPart u n last) m row = openWriteReply row unsaid
-open-write (OpenRead k) m row = openWriteReply row unsaid
-open-write (NextPart u) m row = openWriteReply row unsaid
-open-write GiveUp m row = openWriteReply row unsaid
-open-write Unknown m row = openWriteReply row unsaid
+unfoldable pub open-write : Opening → List ℕ → ℕ → Reply
+open-write (Value n) m row = expeditedReply row (announced n) (take n (drop 4 m))
+open-write Own m row = expeditedReply row own (take 4 (drop 4 m))
+open-write (Announced n) m row = openWriteReply row (announced n)
+open-write Unsaid m row = openWriteReply row unsaid
 
 -- the reply to a message that is not the client's abort
 unfoldable pub reply-to : Message → List ℕ → List ℕ → Transfer → Reply
 reply-to (SendPart u n last) m values t = sendPartReply t u (take n (drop 1 m)) last
-reply-to (WriteSized k n) m values t = to-write k (open-write (WriteSized k n) m)
-reply-to (WriteOwn k) m values t = to-write k (open-write (WriteOwn k) m)
-reply-to (OpenAnnounced k n) m values t = to-write k (open-write (OpenAnnounced k n) m)
-reply-to (OpenUnsaid k) m values t = to-write k (open-write (OpenUnsaid k) m)
+reply-to (OpenWrite k opening) m values t = through (write-gate (find-row (k .index) (k .sub))) k (open-write opening m)
 reply-to (OpenRead k) m values t = through (read-gate (find-row (k .index) (k .sub))) k (open-read values)
 reply-to (NextPart u) m values t = nextPartReply t u
 reply-to GiveUp m values t = ending (answerOf noTransfer)
@@ -135,10 +126,7 @@ pub record Ready (at : ℕ) (values block state : List ℕ) : Type 0 where
 -- is it the client's abort?
 unfoldable pub is-abort : Message → Bool
 is-abort (SendPart u n last) = false
-is-abort (WriteSized k n) = false
-is-abort (WriteOwn k) = false
-is-abort (OpenAnnounced k n) = false
-is-abort (OpenUnsaid k) = false
+is-abort (OpenWrite k opening) = false
 is-abort (OpenRead k) = false
 is-abort (NextPart u) = false
 is-abort GiveUp = true

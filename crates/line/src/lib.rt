@@ -17,10 +17,7 @@ pub fn is_abort(said: Message) -> bool
 {
     match said {
         Message::SendPart(_, _, _) => false,
-        Message::WriteSized(_, _) => false,
-        Message::WriteOwn(_) => false,
-        Message::OpenAnnounced(_, _) => false,
-        Message::OpenUnsaid(_) => false,
+        Message::OpenWrite(_, _) => false,
         Message::OpenRead(_) => false,
         Message::NextPart(_) => false,
         Message::GiveUp => true,
@@ -44,12 +41,11 @@ pub fn speak(
         Message::SendPart(toggle, count, last) => {
             write::send_part(values, block, state, at, m, toggle, count, last)
         }
-        Message::NextPart(toggle) => read::next_part(state, at, toggle),
+        Message::OpenWrite(k, opening) => {
+            write::open_write(values, block, state, at, k, opening, m)
+        }
         Message::OpenRead(k) => read::open_read(values, state, at, k),
-        Message::WriteSized(k, _) => write::open_write(values, block, state, at, k, said, m),
-        Message::WriteOwn(k) => write::open_write(values, block, state, at, k, said, m),
-        Message::OpenAnnounced(k, _) => write::open_write(values, block, state, at, k, said, m),
-        Message::OpenUnsaid(k) => write::open_write(values, block, state, at, k, said, m),
+        Message::NextPart(toggle) => read::next_part(state, at, toggle),
         Message::GiveUp => reply::ended(state, at, answer::no_transfer()),
         Message::Unknown => reply::ended(state, at, answer::no_transfer()),
     }

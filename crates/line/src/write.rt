@@ -5,7 +5,7 @@ use gauge::gate;
 use gauge::gate::Gate;
 use sdo::Direction;
 use sdo::Key;
-use sdo::Message;
+use sdo::Opening;
 use sdo::Transfer;
 use sdo::answer;
 use sdo::record;
@@ -19,6 +19,7 @@ ghost use Rattle.gauge.specs.Gates.{write-gate};
 ghost use Rattle.gauge.specs.Endings.{left, left-by};
 ghost use Rattle.gauge.specs.Memory.{memory-of};
 ghost use Rattle.gauge.specs.Whole.{commit-row};
+ghost use Rattle.sdo.specs.declared.Message.the-variants.{OpenWrite};
 ghost use Rattle.sdo.specs.Eight.{messageOf};
 ghost use Rattle.sdo.specs.Records.{keyAt};
 ghost use Rattle.sdo.specs.Replies.{takenReply, sendPartReply, openWriteReply, valueReply, expeditedReply};
@@ -235,22 +236,17 @@ fn open_on(
     at: usize,
     k: Key,
     row: usize,
-    said: Message,
+    opening: Opening,
     m: &[u8],
 ) -> [u8; 8]
-    requires { ⌜ Ready at (now values) (now block) (now state) × ((row < row-count) × (k ≡ keyAt row)) × (length (now m) ≡ 8) × (said ≡ messageOf (now m)) ⌝ }
-    ensures { λ r. ⌜ told (now (values .exit)) (now (block .exit)) (now (state .exit)) r ≡ answered at (now (values .entry)) (now (block .entry)) (now (state .entry)) (open-write said (now (m .entry)) row) ⌝ }
+    requires { ⌜ Ready at (now values) (now block) (now state) × ((row < row-count) × (k ≡ keyAt row)) × (length (now m) ≡ 8) × (messageOf (now m) ≡ OpenWrite k opening) ⌝ }
+    ensures { λ r. ⌜ told (now (values .exit)) (now (block .exit)) (now (state .exit)) r ≡ answered at (now (values .entry)) (now (block .entry)) (now (state .entry)) (open-write opening (now (m .entry)) row) ⌝ }
 {
-    match said {
-        Message::WriteSized(_, count) => write_sized(values, block, state, at, k, row, m, count),
-        Message::WriteOwn(_) => write_own(values, block, state, at, k, row, m),
-        Message::OpenAnnounced(_, n) => open_announced(state, at, k, row, n),
-        Message::OpenUnsaid(_) => open_unsaid(state, at, k, row),
-        Message::SendPart(_, _, _) => open_unsaid(state, at, k, row),
-        Message::OpenRead(_) => open_unsaid(state, at, k, row),
-        Message::NextPart(_) => open_unsaid(state, at, k, row),
-        Message::GiveUp => open_unsaid(state, at, k, row),
-        Message::Unknown => open_unsaid(state, at, k, row),
+    match opening {
+        Opening::Value(count) => write_sized(values, block, state, at, k, row, m, count),
+        Opening::Own => write_own(values, block, state, at, k, row, m),
+        Opening::Announced(n) => open_announced(state, at, k, row, n),
+        Opening::Unsaid => open_unsaid(state, at, k, row),
     }
 }
 
@@ -260,15 +256,15 @@ pub fn open_write(
     state: &mut [u8],
     at: usize,
     k: Key,
-    said: Message,
+    opening: Opening,
     m: &[u8],
 ) -> [u8; 8]
-    requires { ⌜ Ready at (now values) (now block) (now state) × (length (now m) ≡ 8) × (said ≡ messageOf (now m)) ⌝ }
-    ensures { λ r. ⌜ told (now (values .exit)) (now (block .exit)) (now (state .exit)) r ≡ answered at (now (values .entry)) (now (block .entry)) (now (state .entry)) (through (write-gate (find-row (k .index) (k .sub))) k (open-write said (now (m .entry)))) ⌝ }
+    requires { ⌜ Ready at (now values) (now block) (now state) × (length (now m) ≡ 8) × (messageOf (now m) ≡ OpenWrite k opening) ⌝ }
+    ensures { λ r. ⌜ told (now (values .exit)) (now (block .exit)) (now (state .exit)) r ≡ answered at (now (values .entry)) (now (block .entry)) (now (state .entry)) (through (write-gate (find-row (k .index) (k .sub))) k (open-write opening (now (m .entry)))) ⌝ }
 {
     let gate = gate::to_write(k.index, k.sub);
     match gate {
-        Gate::Open(row) => open_on(values, block, state, at, k, row, said, m),
+        Gate::Open(row) => open_on(values, block, state, at, k, row, opening, m),
         Gate::Shut(code) => reply::refused(state, at, k, code),
     }
 }

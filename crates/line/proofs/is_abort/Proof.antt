@@ -22,15 +22,6 @@ enum-told-5 c = search needs
 enum-told-6 : tie.Need-enum-told-6
 enum-told-6 c = search needs
 
-enum-told-7 : tie.Need-enum-told-7
-enum-told-7 c = search needs
-
-enum-told-8 : tie.Need-enum-told-8
-enum-told-8 c = search needs
-
-enum-told-9 : tie.Need-enum-told-9
-enum-told-9 c = search needs
-
 returns : tie.Need-returns
 unfolding is-abort
 returns c = rw (c .enum-told .given .1)
@@ -55,18 +46,6 @@ returns-6 : tie.Need-returns-6
 unfolding is-abort
 returns-6 c = rw (c .enum-told6 .given .1)
 
-returns-7 : tie.Need-returns-7
-unfolding is-abort
-returns-7 c = rw (c .enum-told7 .given .1)
-
-returns-8 : tie.Need-returns-8
-unfolding is-abort
-returns-8 c = rw (c .enum-told8 .given .1)
-
-returns-9 : tie.Need-returns-9
-unfolding is-abort
-returns-9 c = rw (c .enum-told9 .given .1)
-
 pub is-abort-spec : {M : Type 1} → statement M
 is-abort-spec =
     tie.close
@@ -77,15 +56,9 @@ is-abort-spec =
     enum-told-4
     enum-told-5
     enum-told-6
-    enum-told-7
-    enum-told-8
-    enum-told-9
     returns
     returns-2
     returns-3
     returns-4
     returns-5
-    returns-6
-    returns-7
-    returns-8
-    returns-9)
+    returns-6)

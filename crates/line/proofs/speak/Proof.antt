@@ -6,8 +6,8 @@ use Rattle.gauge.specs.Gates.{read-gate}
 use Rattle.sdo.specs.Replies.{ending, nextPartReply}
 use Rattle.sdo.specs.declared.Message.{Message}
 use Rattle.sdo.proofs.ReplyLaws.{part-count}
-use Rattle.line.specs.Answering.{through, open-read, reply-to, answered}
 use Rattle.state.specs.State.{record-at}
+use Rattle.line.specs.Answering.{through, open-read, reply-to, answered}
 use Rattle.line.proofs.Answered.{kept-told, told-as, next-done, read-done}
 use Rattle.line.proofs.speak.Statement.{statement}
 use Rattle.line.proofs.speak.Tie as tie
@@ -18,13 +18,16 @@ enum-known-said c = search needs
 send-part-requires : tie.Need-send-part-requires
 send-part-requires c κs =
     let s = c .before .before .before .before .before .before .before .before .before .before in
-    (s .pre .0, s .pre .1, part-count (s .args .m .now) (c .before .before .before .before .said .given .0 .0) (c .before .before .before .before .said .given .0 .1 .0) (c .before .before .before .before .said .given .0 .1 .1 .0) (sym (s .pre .2) ∙ c .before .before .before .before .said .given .1))
+    let said = c .before .before .before .before .said .given in
+    (s .pre .0, s .pre .1, part-count (s .args .m .now) (said .0 .0) (said .0 .1 .0) (said .0 .1 .1 .0) (sym (s .pre .2) ∙ said .1))
 
 enum-known-said-2 : tie.Need-enum-known-said-2
 enum-known-said-2 c = search needs
 
-next-part-requires : tie.Need-next-part-requires
-next-part-requires c κs = search needs
+open-write-requires : tie.Need-open-write-requires
+open-write-requires c κs =
+    let s = c .before .before .before .before .before .before .before .before .before .before in
+    (s .pre .0, s .pre .1, sym (s .pre .2) ∙ c .before .before .before .before .said2 .given .1)
 
 enum-known-said-3 : tie.Need-enum-known-said-3
 enum-known-said-3 c = search needs
@@ -35,26 +38,8 @@ open-read-requires c κs = search needs
 enum-known-said-4 : tie.Need-enum-known-said-4
 enum-known-said-4 c = search needs
 
-open-write-requires : tie.Need-open-write-requires
-open-write-requires c κs = let s = c .before .before .before .before .before .before .before .before .before .before in (s .pre .0, s .pre .1, sym (c .before .before .before .before .said4 .given .1) ∙ s .pre .2)
-
-enum-known-said-5 : tie.Need-enum-known-said-5
-enum-known-said-5 c = search needs
-
-open-write-requires-2 : tie.Need-open-write-requires-2
-open-write-requires-2 c κs = let s = c .before .before .before .before .before .before .before .before .before .before in (s .pre .0, s .pre .1, sym (c .before .before .before .before .said5 .given .1) ∙ s .pre .2)
-
-enum-known-said-6 : tie.Need-enum-known-said-6
-enum-known-said-6 c = search needs
-
-open-write-requires-3 : tie.Need-open-write-requires-3
-open-write-requires-3 c κs = let s = c .before .before .before .before .before .before .before .before .before .before in (s .pre .0, s .pre .1, sym (c .before .before .before .before .said6 .given .1) ∙ s .pre .2)
-
-enum-known-said-7 : tie.Need-enum-known-said-7
-enum-known-said-7 c = search needs
-
-open-write-requires-4 : tie.Need-open-write-requires-4
-open-write-requires-4 c κs = let s = c .before .before .before .before .before .before .before .before .before .before in (s .pre .0, s .pre .1, sym (c .before .before .before .before .said7 .given .1) ∙ s .pre .2)
+next-part-requires : tie.Need-next-part-requires
+next-part-requires c κs = search needs
 
 enum-told : tie.Need-enum-told
 enum-told c = search needs
@@ -96,22 +81,27 @@ returns c =
 same-length-4 : tie.Need-same-length-4
 same-length-4 c = search needs
 
-returns-2 : tie.Need-returns-2
-unfolding reply-to
-returns-2 c =
-    let s = c .before .before .before .before .before .before .before .before .before .before .before in
-    let p = s .args .at in
-    let v = s .args .values .now in
-    let b = s .args .block .now in
-    let o = s .args .state .now in
-    let u = c .before .before .before .before .before .said2 .given .0 .0 in
-    kept-told p v b o (nextPartReply (record-at o p) u) (next-done (record-at o p) u) (c .before .before .next-part .ensures) ∙ ap (λ (q : Message). answered p v b o (reply-to q (s .args .m .now) v (record-at o p))) (sym (c .before .before .before .before .before .said2 .given .1))
-
 same-length-5 : tie.Need-same-length-5
 same-length-5 c = search needs
 
 same-length-6 : tie.Need-same-length-6
 same-length-6 c = search needs
+
+returns-2 : tie.Need-returns-2
+unfolding reply-to
+returns-2 c =
+    let s = c .before .before .before .before .before .before .before .before .before .before .before .before .before .before .before .before .before in
+    let p = s .args .at in
+    let v = s .args .values .now in
+    let b = s .args .block .now in
+    let o = s .args .state .now in
+    c .before .before .before .before .before .before .open-write .ensures ∙ ap (λ (q : Message). answered p v b o (reply-to q (s .args .m .now) v (record-at o p))) (sym (c .before .before .before .before .before .before .before .before .before .before .before .said2 .given .1))
+
+same-length-7 : tie.Need-same-length-7
+same-length-7 c = search needs
+
+same-length-8 : tie.Need-same-length-8
+same-length-8 c = search needs
 
 returns-3 : tie.Need-returns-3
 unfolding reply-to
@@ -124,88 +114,26 @@ returns-3 c =
     let k = c .before .before .before .before .before .before .said3 .given .0 .0 in
     kept-told p v b o (through (read-gate (find-row (k .index) (k .sub))) k (open-read v)) (read-done k v) (c .before .before .open-read .ensures) ∙ ap (λ (q : Message). answered p v b o (reply-to q (s .args .m .now) v (record-at o p))) (sym (c .before .before .before .before .before .before .said3 .given .1))
 
-same-length-7 : tie.Need-same-length-7
-same-length-7 c = search needs
-
-same-length-8 : tie.Need-same-length-8
-same-length-8 c = search needs
-
 same-length-9 : tie.Need-same-length-9
 same-length-9 c = search needs
 
 returns-4 : tie.Need-returns-4
 unfolding reply-to
 returns-4 c =
-    let s = c .before .before .before .before .before .before .before .before .before .before .before .before .before .before .before .before .before in
+    let s = c .before .before .before .before .before .before .before .before .before .before .before in
     let p = s .args .at in
     let v = s .args .values .now in
     let b = s .args .block .now in
     let o = s .args .state .now in
-    c .before .before .before .before .before .before .open-write .ensures ∙ ap (λ (q : Message). answered p v b o (reply-to q (s .args .m .now) v (record-at o p))) (sym (c .before .before .before .before .before .before .before .before .before .before .before .said4 .given .1))
+    let u = c .before .before .before .before .before .said4 .given .0 .0 in
+    kept-told p v b o (nextPartReply (record-at o p) u) (next-done (record-at o p) u) (c .before .before .next-part .ensures) ∙ ap (λ (q : Message). answered p v b o (reply-to q (s .args .m .now) v (record-at o p))) (sym (c .before .before .before .before .before .said4 .given .1))
 
 same-length-10 : tie.Need-same-length-10
 same-length-10 c = search needs
 
-same-length-11 : tie.Need-same-length-11
-same-length-11 c = search needs
-
-same-length-12 : tie.Need-same-length-12
-same-length-12 c = search needs
-
 returns-5 : tie.Need-returns-5
 unfolding reply-to
 returns-5 c =
-    let s = c .before .before .before .before .before .before .before .before .before .before .before .before .before .before .before .before .before in
-    let p = s .args .at in
-    let v = s .args .values .now in
-    let b = s .args .block .now in
-    let o = s .args .state .now in
-    c .before .before .before .before .before .before .open-write2 .ensures ∙ ap (λ (q : Message). answered p v b o (reply-to q (s .args .m .now) v (record-at o p))) (sym (c .before .before .before .before .before .before .before .before .before .before .before .said5 .given .1))
-
-same-length-13 : tie.Need-same-length-13
-same-length-13 c = search needs
-
-same-length-14 : tie.Need-same-length-14
-same-length-14 c = search needs
-
-same-length-15 : tie.Need-same-length-15
-same-length-15 c = search needs
-
-returns-6 : tie.Need-returns-6
-unfolding reply-to
-returns-6 c =
-    let s = c .before .before .before .before .before .before .before .before .before .before .before .before .before .before .before .before .before in
-    let p = s .args .at in
-    let v = s .args .values .now in
-    let b = s .args .block .now in
-    let o = s .args .state .now in
-    c .before .before .before .before .before .before .open-write3 .ensures ∙ ap (λ (q : Message). answered p v b o (reply-to q (s .args .m .now) v (record-at o p))) (sym (c .before .before .before .before .before .before .before .before .before .before .before .said6 .given .1))
-
-same-length-16 : tie.Need-same-length-16
-same-length-16 c = search needs
-
-same-length-17 : tie.Need-same-length-17
-same-length-17 c = search needs
-
-same-length-18 : tie.Need-same-length-18
-same-length-18 c = search needs
-
-returns-7 : tie.Need-returns-7
-unfolding reply-to
-returns-7 c =
-    let s = c .before .before .before .before .before .before .before .before .before .before .before .before .before .before .before .before .before in
-    let p = s .args .at in
-    let v = s .args .values .now in
-    let b = s .args .block .now in
-    let o = s .args .state .now in
-    c .before .before .before .before .before .before .open-write4 .ensures ∙ ap (λ (q : Message). answered p v b o (reply-to q (s .args .m .now) v (record-at o p))) (sym (c .before .before .before .before .before .before .before .before .before .before .before .said7 .given .1))
-
-same-length-19 : tie.Need-same-length-19
-same-length-19 c = search needs
-
-returns-8 : tie.Need-returns-8
-unfolding reply-to
-returns-8 c =
     let s = c .before .before .before .before .before .before .before .before .before .before .before in
     let p = s .args .at in
     let v = s .args .values .now in
@@ -213,12 +141,12 @@ returns-8 c =
     let o = s .args .state .now in
     told-as p v b o (ending (c .before .before .before .no-transfer .result)) refl (c .before .before .ended .ensures) (ap ending (c .before .before .before .no-transfer .ensures)) ∙ ap (λ (q : Message). answered p v b o (reply-to q (s .args .m .now) v (record-at o p))) (sym (c .before .before .before .before .before .enum-told .given .1))
 
-same-length-20 : tie.Need-same-length-20
-same-length-20 c = search needs
+same-length-11 : tie.Need-same-length-11
+same-length-11 c = search needs
 
-returns-9 : tie.Need-returns-9
+returns-6 : tie.Need-returns-6
 unfolding reply-to
-returns-9 c =
+returns-6 c =
     let s = c .before .before .before .before .before .before .before .before .before .before .before in
     let p = s .args .at in
     let v = s .args .values .now in
@@ -233,17 +161,11 @@ speak-spec =
     enum-known-said
     send-part-requires
     enum-known-said-2
-    next-part-requires
+    open-write-requires
     enum-known-said-3
     open-read-requires
     enum-known-said-4
-    open-write-requires
-    enum-known-said-5
-    open-write-requires-2
-    enum-known-said-6
-    open-write-requires-3
-    enum-known-said-7
-    open-write-requires-4
+    next-part-requires
     enum-told
     no-transfer-requires
     ended-requires
@@ -255,27 +177,15 @@ speak-spec =
     same-length-3
     returns
     same-length-4
-    returns-2
     same-length-5
     same-length-6
-    returns-3
+    returns-2
     same-length-7
     same-length-8
+    returns-3
     same-length-9
     returns-4
     same-length-10
-    same-length-11
-    same-length-12
     returns-5
-    same-length-13
-    same-length-14
-    same-length-15
-    returns-6
-    same-length-16
-    same-length-17
-    same-length-18
-    returns-7
-    same-length-19
-    returns-8
-    same-length-20
-    returns-9)
+    same-length-11
+    returns-6)

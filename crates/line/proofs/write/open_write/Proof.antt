@@ -47,7 +47,7 @@ returns c =
     let v = s .args .values .now in
     let b = s .args .block .now in
     let o = s .args .state .now in
-    c .before .before .before .before .before .before .open-on .ensures ∙ ap (answered p v b o) (open-reply RO read-only (s .args .k) (open-write (s .args .said) (s .args .m .now)) (c .before .before .before .before .before .before .before .before .before .before .before .before .before .to-write .ensures) (c .before .before .before .before .before .before .before .before .before .before .before .gate .given .0 .0) (c .before .before .before .before .before .before .before .before .before .before .before .gate .given .1))
+    c .before .before .before .before .before .before .open-on .ensures ∙ ap (answered p v b o) (open-reply RO read-only (s .args .k) (open-write (s .args .opening) (s .args .m .now)) (c .before .before .before .before .before .before .before .before .before .before .before .before .before .to-write .ensures) (c .before .before .before .before .before .before .before .before .before .before .before .gate .given .0 .0) (c .before .before .before .before .before .before .before .before .before .before .before .gate .given .1))
 
 same-length-4 : tie.Need-same-length-4
 same-length-4 c = search needs
@@ -60,7 +60,7 @@ returns-2 c =
     let b = s .args .block .now in
     let o = s .args .state .now in
     let c₁ = c .before .before .before .before .before .gate2 .given .0 .0 in
-    told-as p v b o (ending (answerOf (refused (s .args .k) c₁))) refl (c .before .before .refused .ensures) (shut-reply RO read-only (s .args .k) (open-write (s .args .said) (s .args .m .now)) (c .before .before .before .before .before .before .before .to-write .ensures) c₁ (c .before .before .before .before .before .gate2 .given .1))
+    told-as p v b o (ending (answerOf (refused (s .args .k) c₁))) refl (c .before .before .refused .ensures) (shut-reply RO read-only (s .args .k) (open-write (s .args .opening) (s .args .m .now)) (c .before .before .before .before .before .before .before .to-write .ensures) c₁ (c .before .before .before .before .before .gate2 .given .1))
 
 pub open-write-spec : {M : Type 1} → statement M
 open-write-spec =
