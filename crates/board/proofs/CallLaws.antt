@@ -1,10 +1,9 @@
 -- The calls by cases, as the code takes them: each law takes what the calls ensure. Assumes nothing.
 use mathlib.Core.Path.{_≡_, refl, sym, ap, _∙_}
-use mathlib.Core.Bool.{true, false, cond}
+use mathlib.Core.Bool.{true, false}
 use mathlib.Core.List.{List, [], _∷_}
 use Prim.Native.Nat.{ℕ, _+_, _<_, _≤_}
 use native.Mathlib.Omega.{arith}
-use lib.Dec.{eqb, leb}
 use lib.Ieee.{Float}
 use lib.ListN.{length, take, drop}
 use lib.Seq.{take-all}
@@ -17,16 +16,16 @@ use Rattle.sample.specs.Image.{image-of}
 use Rattle.gauge.specs.Memory.{Store, memory-of}
 use Rattle.gauge.specs.PowerUp.{fresh-values}
 use Rattle.sdo.specs.declared.Message.{Message}
-use Rattle.sdo.specs.declared.Message.the-variants.{SendPart, WriteSized, WriteOwn, OpenAnnounced, OpenUnsaid, OpenRead, NextPart, GiveUp, Unknown}
+use Rattle.sdo.specs.declared.Message.the-variants.{SendPart, OpenWrite, OpenRead, NextPart, GiveUp, Unknown}
 use Rattle.sdo.specs.Eight.{messageOf}
 use Rattle.sdo.specs.Replies.{Reply}
 use Rattle.sdo.specs.Records.{Spoken, allZero, speak}
 use Rattle.sdo.proofs.RecordLaws.{Whole}
-use Rattle.board.specs.State.{record-place, record-at, record-bytes, trips-place, trips-at, trips-bytes}
+use Rattle.state.specs.State.{record-place, record-at, record-bytes, trips-place, trips-at, trips-bytes, dropped}
+use Rattle.line.specs.Answering.{is-abort, reply-to, Acted, act-by, settled, Told, told, told-by, answered}
 use Rattle.board.specs.Gauge.{sampled, bag552}
-use Rattle.board.specs.Answering.{is-abort, reply-to, Acted, act-by, spoken-by, Told, told, told-by, answered}
-use Rattle.board.specs.Calls.{Lent, store-of, sized, called, number-by, dropped, settled, served, message-call, powered, power-up-call, fed, fed-by, sample-call, shown, image-call}
-use Rattle.board.proofs.Spoken.{speak-is, given-up}
+use Rattle.board.specs.Calls.{Lent, store-of, sized, called, number-by, served, message-call, powered, power-up-call, fed, fed-by, sample-call, shown, image-call}
+use Rattle.board.proofs.Spoken.{spoken-by, speak-is, given-up}
 
 -- ---- lengths
 
@@ -78,16 +77,13 @@ module _ (line : ℕ) (m v b s a : List ℕ) where
 pub abort-is : (said : Message) → is-abort said ≡ true → said ≡ GiveUp
 unfolding is-abort
 abort-is (SendPart u n last) e = let z : _≡_ {A = ℕ} 0 1 = cc in absurd (omega arith)
-abort-is (WriteSized k n) e = let z : _≡_ {A = ℕ} 0 1 = cc in absurd (omega arith)
-abort-is (WriteOwn k) e = let z : _≡_ {A = ℕ} 0 1 = cc in absurd (omega arith)
-abort-is (OpenAnnounced k n) e = let z : _≡_ {A = ℕ} 0 1 = cc in absurd (omega arith)
-abort-is (OpenUnsaid k) e = let z : _≡_ {A = ℕ} 0 1 = cc in absurd (omega arith)
+abort-is (OpenWrite k opening) e = let z : _≡_ {A = ℕ} 0 1 = cc in absurd (omega arith)
 abort-is (OpenRead k) e = let z : _≡_ {A = ℕ} 0 1 = cc in absurd (omega arith)
 abort-is (NextPart u) e = let z : _≡_ {A = ℕ} 0 1 = cc in absurd (omega arith)
 abort-is GiveUp e = refl
 abort-is Unknown e = let z : _≡_ {A = ℕ} 0 1 = cc in absurd (omega arith)
 
-no-abort : (said : Message) → is-abort said ≡ false → said ≡ GiveUp → ⊥
+pub no-abort : (said : Message) → is-abort said ≡ false → said ≡ GiveUp → ⊥
 unfolding is-abort
 no-abort said e q = let z : _≡_ {A = ℕ} 0 1 = cc (ap is-abort q) in omega arith
 

@@ -5,10 +5,10 @@ use mathlib.Core.List.{List, []}
 use mathlib.Core.Option.{Option, none, some}
 use Prim.Native.Nat.{ℕ, _+_, _<_}
 use native.Mathlib.Omega.{arith}
-use lib.Dec.{eqb, ltb, leb}
+use lib.Dec.{ltb, leb}
 use lib.ListN.{length, take, drop}
 use borrow.Author.Tests.{ltb-false, leb-true, ne-eqb}
-use Rattle.order.specs.Talk.{Said, announced, unsaid, own, openRead, openWrite, expedited, Read, value, denied, Sizes, sizes, closed, refused, Outcome, stored, restarted, declined}
+use Rattle.order.specs.Talk.{Said, announced, unsaid, own, openRead, openWrite, expedited, value, Sizes, sizes, closed, refused, Outcome, stored, restarted, declined}
 use Rattle.order.specs.Gauge.{tooLong, tooShort, narrowed, counted, say}
 use Rattle.table.specs.Row.{RO, WO}
 use Rattle.table.specs.Rows.{at-row, row-count}
@@ -16,8 +16,9 @@ use Rattle.table.specs.Find.{find-row}
 use Rattle.table.specs.Rule.{pick}
 use Rattle.table.specs.declared.Found.the-variants.{At}
 use Rattle.table.proofs.Table.{find-at, row-found}
+use Rattle.trip.specs.Trip.{all-off}
 use Rattle.gauge.specs.Gates.{gate, read-gate, write-gate, read-only, write-only, sizes-of, smallest, largest}
-use Rattle.gauge.specs.Memory.{Memory, Store}
+use Rattle.gauge.specs.Memory.{Memory, Store, memory-of}
 use Rattle.gauge.specs.Whole.{value-of, read-through, read-whole, commit-row, with-trips, commit-through, commit-whole, write-sizes}
 use Rattle.gauge.specs.declared.gate.Gate.{Gate}
 use Rattle.gauge.specs.declared.gate.Gate.the-variants.{Open, Shut}
@@ -26,19 +27,31 @@ use Rattle.sdo.specs.declared.Key.{Key}
 use Rattle.sdo.specs.declared.Direction.{Direction}
 use Rattle.sdo.specs.declared.Direction.the-variants.{Neither, Reads, Writes}
 use Rattle.sdo.specs.declared.Transfer.{Transfer}
+use Rattle.sdo.specs.declared.Opening.{Opening}
+use Rattle.sdo.specs.declared.Opening.the-variants.{Value, Own, Announced, Unsaid}
 use Rattle.sdo.specs.declared.Message.{Message}
-use Rattle.sdo.specs.declared.Message.the-variants.{SendPart, WriteSized, WriteOwn, OpenAnnounced, OpenUnsaid, OpenRead, NextPart, GiveUp, Unknown}
+use Rattle.sdo.specs.declared.Message.the-variants.{SendPart, OpenWrite, OpenRead, NextPart, GiveUp, Unknown}
 use Rattle.sdo.specs.Eight.{messageOf, asked, askOf, answerOf}
-use Rattle.sdo.specs.Records.{allZero, keyAt, allows, counts, speak}
+use Rattle.sdo.specs.Records.{Spoken, allZero, keyAt, allows, counts, speak}
 use Rattle.sdo.specs.Replies.{Act, Done, Commit, Reply, ending, is-reading, is-writing, givenReply, nextPartReply, takenReply, sendPartReply, openReadReply, openWriteBy, openWriteReply, expeditedBy, expeditedReply, filled, concluded, actedBy}
 use Rattle.sdo.specs.Lines.{short}
 use Rattle.sdo.proofs.RecordLaws.{Whole, counts-fits}
 use Rattle.sdo.proofs.ReplyLaws.{ask-is}
 use Rattle.sdo.proofs.SpeakLaws.{speak-next-part, speak-send-part, speak-give-up, speak-unknown, speak-read-denied, speak-write-closed, speak-expedited-closed, speak-open-read, speak-open-write, speak-expedited}
+use Rattle.line.specs.Answering.{through, open-read, open-write, reply-to, Acted, act-by}
+use Rattle.line.specs.Answering as line
+use Rattle.line.proofs.Doors.{Opened, opened}
 use Rattle.board.specs.Gauge.{bag552}
-use Rattle.board.specs.Answering.{through, open-read, open-write, reply-to, act-by, spoken-by}
-use Rattle.board.specs.Answering as line
-use Rattle.board.proofs.Doors.{Opened, opened}
+
+-- what is left, as `speak` says it, with the trip states: "trips off" after a device reset
+unfoldable pub spoken-by : Store → Acted → Spoken Store
+spoken-by g a =
+    record {
+      store = record { memory = memory-of (a .values) (a .block); trips = cond (a .reset) all-off (g .trips) };
+      next = a .next;
+      reset = a .reset;
+      bytes = a .eight;
+    }
 
 -- ---- only a whole value of a row that may be written is committed
 
@@ -119,17 +132,12 @@ expedited-writable row there access said bytes = go said
     go unsaid = commits (at-row row .len) (at-row row .len) (counted unsaid (at-row row .len) bytes) refl
     go own = commits (at-row row .len) (at-row row .len) (counted own (at-row row .len) bytes) refl
 
-opening-writable : (said : Message) (m : List ℕ) (row : ℕ) → row < row-count → (at-row row .access ≡ RO → ⊥) → Writable ((open-write said m row) .act)
+opening-writable : (o : Opening) (m : List ℕ) (row : ℕ) → row < row-count → (at-row row .access ≡ RO → ⊥) → Writable ((open-write o m row) .act)
 unfolding open-write
-opening-writable (WriteSized k n) m row h a = expedited-writable row h a (announced n) (take n (drop 4 m))
-opening-writable (WriteOwn k) m row h a = expedited-writable row h a own (take 4 (drop 4 m))
-opening-writable (OpenAnnounced k n) m row h a = open-writable row (announced n)
-opening-writable (OpenUnsaid k) m row h a = open-writable row unsaid
-opening-writable (SendPart u n last) m row h a = open-writable row unsaid
-opening-writable (OpenRead k) m row h a = open-writable row unsaid
-opening-writable (NextPart u) m row h a = open-writable row unsaid
-opening-writable GiveUp m row h a = open-writable row unsaid
-opening-writable Unknown m row h a = open-writable row unsaid
+opening-writable (Value n) m row h a = expedited-writable row h a (announced n) (take n (drop 4 m))
+opening-writable Own m row h a = expedited-writable row h a own (take 4 (drop 4 m))
+opening-writable (Announced n) m row h a = open-writable row (announced n)
+opening-writable Unsaid m row h a = open-writable row unsaid
 
 through-writable : (barred code : ℕ) (k : Key) (f : ℕ → Reply) → ((row : ℕ) → Opened barred (k .index) (k .sub) row → Writable ((f row) .act))
     → Writable ((through (gate barred code (find-row (k .index) (k .sub))) k f) .act)
@@ -140,19 +148,12 @@ through-writable barred code k f h = go (gate barred code (find-row (k .index) (
     go (Open row) e = h row (opened barred code (k .index) (k .sub) row (find-row (k .index) (k .sub)) refl e)
     go (Shut c) e = tt
 
-write-writable : (k : Key) (said : Message) (m : List ℕ) → Writable ((through (write-gate (find-row (k .index) (k .sub))) k (open-write said m)) .act)
-write-writable k said m =
-    through-writable RO read-only k (open-write said m)
-    (λ row o. opening-writable said m row (find-at (k .index) (k .sub) row (o .found) .there) (o .allowed))
-
 -- the reply to any message
 pub reply-writable : (said : Message) (m values : List ℕ) (t : Transfer) → Writable ((reply-to said m values t) .act)
 unfolding reply-to open-read
 reply-writable (SendPart u n last) m values t = part-writable t u (take n (drop 1 m)) last
-reply-writable (WriteSized k n) m values t = write-writable k (WriteSized k n) m
-reply-writable (WriteOwn k) m values t = write-writable k (WriteOwn k) m
-reply-writable (OpenAnnounced k n) m values t = write-writable k (OpenAnnounced k n) m
-reply-writable (OpenUnsaid k) m values t = write-writable k (OpenUnsaid k) m
+reply-writable (OpenWrite k o) m values t =
+    through-writable RO read-only k (open-write o m) (λ row d. opening-writable o m row (find-at (k .index) (k .sub) row (d .found) .there) (d .allowed))
 reply-writable (OpenRead k) m values t =
     through-writable WO write-only k (open-read values) (λ row o. read-writable row (filled (value-of (at-row row) values)) (at-row row .len))
 reply-writable (NextPart u) m values t = next-writable t u
@@ -230,10 +231,10 @@ module _ (g : Store) where
     agrees : (said : Message) → messageOf m ≡ said → (said ≡ GiveUp → ⊥) → Agrees (reply-to said m (g .memory .values) t)
     unfolding asked reply-to open-write
     agrees (SendPart u n last) e d = speak-send-part bag552 g t m u (take n (drop 1 m)) last (ask-is m (SendPart u n last) e) whole
-    agrees (WriteSized k n) e d = whole-write k (announced n) (take n (drop 4 m)) (open-write (WriteSized k n) m) (λ row. refl) (ask-is m (WriteSized k n) e)
-    agrees (WriteOwn k) e d = whole-write k own (take 4 (drop 4 m)) (open-write (WriteOwn k) m) (λ row. refl) (ask-is m (WriteOwn k) e)
-    agrees (OpenAnnounced k n) e d = parted-write k (some n) (open-write (OpenAnnounced k n) m) (λ row. refl) (ask-is m (OpenAnnounced k n) e)
-    agrees (OpenUnsaid k) e d = parted-write k none (open-write (OpenUnsaid k) m) (λ row. refl) (ask-is m (OpenUnsaid k) e)
+    agrees (OpenWrite k (Value n)) e d = whole-write k (announced n) (take n (drop 4 m)) (open-write (Value n) m) (λ row. refl) (ask-is m (OpenWrite k (Value n)) e)
+    agrees (OpenWrite k Own) e d = whole-write k own (take 4 (drop 4 m)) (open-write Own m) (λ row. refl) (ask-is m (OpenWrite k Own) e)
+    agrees (OpenWrite k (Announced n)) e d = parted-write k (some n) (open-write (Announced n) m) (λ row. refl) (ask-is m (OpenWrite k (Announced n)) e)
+    agrees (OpenWrite k Unsaid) e d = parted-write k none (open-write Unsaid m) (λ row. refl) (ask-is m (OpenWrite k Unsaid) e)
     agrees (OpenRead k) e d = whole-read k (ask-is m (OpenRead k) e)
     agrees (NextPart u) e d = speak-next-part bag552 g t m u (ask-is m (NextPart u) e) whole
     agrees GiveUp e d = absurd (d refl)

@@ -1,19 +1,19 @@
 -- THE PROMISES OF THE BOARD'S CALLS: each returned number, every byte of what was lent, on all inputs. Assumes nothing.
-use mathlib.Core.Bool.{Bool, true, false, cond, _&&_}
+use mathlib.Core.Bool.{Bool, cond, _&&_}
 use mathlib.Core.List.{List, [], _∷_}
 use mathlib.Core.Path.{_≡_}
-use Prim.Native.Nat.{ℕ, _+_, _≤_}
-use lib.Dec.{eqb, leb, ltb}
+use Prim.Native.Nat.{ℕ, _≤_}
+use lib.Dec.{eqb, leb}
 use lib.Ieee.{Float}
 use lib.ListN.{length}
 use Rattle.wire.specs.Splice.{splice}
 use Rattle.sample.specs.Image.{image-of}
-use Rattle.gauge.specs.Memory.{Memory, Store, memory-of, all-off}
+use Rattle.gauge.specs.Memory.{Store, memory-of}
 use Rattle.gauge.specs.PowerUp.{fresh-values}
-use Rattle.sdo.specs.declared.Transfer.{Transfer}
-use Rattle.sdo.specs.Records.{Spoken, allZero, speak}
-use Rattle.board.specs.State.{record-place, record-at, record-bytes, trips-place, trips-at, trips-bytes}
-use Rattle.board.specs.Gauge.{Sample, sampled, bag552}
+use Rattle.sdo.specs.Records.{Spoken, speak}
+use Rattle.state.specs.State.{record-place, record-at, trips-place, trips-at, trips-bytes, dropped}
+use Rattle.line.specs.Answering.{settled}
+use Rattle.board.specs.Gauge.{sampled, bag552}
 
 -- ---- what the lent bytes say
 
@@ -40,13 +40,6 @@ called number values block state answer = record { number = number; values = val
 unfoldable pub number-by : List ℕ → ℕ
 number-by [] = 5
 number-by (b ∷ bytes) = 0
-
--- "Device reset answers, then does power-up and drops both lines' transfers"; a message leaves all else of the state
-unfoldable pub dropped : List ℕ → List ℕ
-dropped state = splice (splice (splice state 0 (record-bytes allZero)) 96 (record-bytes allZero)) trips-place (trips-bytes all-off)
-
-unfoldable pub settled : ℕ → Transfer → Bool → List ℕ → List ℕ
-settled at next reset state = cond reset (dropped state) (splice state at (record-bytes next))
 
 abbrev pub state-after : ℕ → Spoken Store → List ℕ → List ℕ
 state-after line s state = settled (record-place line) (s .next) (s .reset) state

@@ -1,4 +1,2 @@
-pub mod State
 pub mod Gauge
 pub mod Calls
-pub mod Answering

@@ -1,16 +1,10 @@
 // THE BOARD: the calls for C firmware, on lent bytes. No call has a condition: bad input is refused by number.
-pub mod line;
-pub mod read;
-pub mod reply;
-pub mod state;
-pub mod write;
-
 use sdo::decode;
 ghost use mathlib.Core.Path.{_≡_};
 ghost use Prim.Native.Nat.{_+_, _≤_};
 ghost use lib.ListN.{length};
 ghost use Rattle.sdo.specs.Records.{speak};
-ghost use Rattle.board.specs.State.{record-place, record-at};
+ghost use Rattle.state.specs.State.{record-place, record-at};
 ghost use Rattle.board.specs.Gauge.{bag552};
 ghost use Rattle.board.specs.Calls.{Lent, store-of, called, served, message-call, powered, power-up-call, fed, sample-call, shown, image-call};
 

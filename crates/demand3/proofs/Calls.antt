@@ -13,16 +13,15 @@ use Rattle.wire.specs.Splice.{splice}
 use Rattle.wire.proofs.SpliceLaws.{length-splice, part-length, part-same}
 use Rattle.table.proofs.Walks.{lt-or-ge}
 use Rattle.trip.specs.declared.Trips.{Trips}
+use Rattle.trip.specs.Trip.{all-off}
 use Rattle.sample.specs.Sample.{trips-after, values-after}
 use Rattle.order.specs.Talk.{idle}
 use Rattle.order.specs.Gauge.{results, endOf}
 use Rattle.order.specs.Observe.{Done}
 use Rattle.order.specs.Promise.{opsOf, gotOf}
 use Rattle.order.specs.Bytes.{heard, fed, client}
-use Rattle.gauge.specs.Memory.{Store, memory-of, all-off}
+use Rattle.gauge.specs.Memory.{Store, memory-of}
 use Rattle.gauge.specs.PowerUp.{fresh-values}
-use Rattle.sdo.specs.declared.Message.{Message}
-use Rattle.sdo.specs.declared.Message.the-variants.{GiveUp}
 use Rattle.sdo.specs.declared.Transfer.{Transfer}
 use Rattle.sdo.specs.Eight.{messageOf}
 use Rattle.sdo.specs.Lines.{gauge, eight, Line, tool, service, Both, atLine, setLine, both, twoLines, eightCodec, BoardCall}
@@ -30,12 +29,12 @@ use Rattle.sdo.specs.Records.{allZero, Spoken, speak, RecordBoard, recordsAfter
 use Rattle.sdo.proofs.RecordLaws.{Whole, Small, served-small}
 use Rattle.sdo.proofs.Demand.{spoken-eight, unfinished}
 use Rattle.sdo.proofs.DemandRecords.{next-served, next-whole, WholeBoard, follows}
-use Rattle.board.specs.State.{record-place, record-at, record-bytes, trips-place, trips-at, trips-bytes}
+use Rattle.state.specs.State.{record-place, record-at, record-bytes, trips-place, trips-at, trips-bytes, dropped}
+use Rattle.line.specs.Answering.{is-abort, Acted, settled}
 use Rattle.board.specs.Gauge.{Sample, sampled, bag552}
-use Rattle.board.specs.Answering.{is-abort, Acted, spoken-by}
-use Rattle.board.specs.Calls.{Called, Fed, store-of, sized, called, number-by, dropped, settled, served, message-call, power-up-call, powered, fed-by, sample-call}
-use Rattle.board.proofs.Spoken.{speak-is, given-up}
-use Rattle.board.proofs.CallLaws.{abort-is, place-most, all-sized, no-line, no-room, no-message, is-served}
+use Rattle.board.specs.Calls.{Called, Fed, store-of, sized, called, number-by, served, message-call, power-up-call, powered, fed-by, sample-call}
+use Rattle.board.proofs.Spoken.{spoken-by, speak-is, given-up}
+use Rattle.board.proofs.CallLaws.{abort-is, no-abort, place-most, all-sized, no-line, no-room, no-message, is-served}
 use Rattle.demand3.specs.Firmware.{Arrays, arrays, Exported, to-message, to-sample, to-image, Back, back, by-message, by-sample, exported, history, final, power-on, line-of, answer-by, ends-write, Answered, event-of, with-event, events, calls-in, observed, powered-store, store-in, board-in, Demand3Calls}
 use Rattle.demand3.proofs.Lengths.{values-long, fresh-long}
 use Rattle.demand3.proofs.Bag552.{sound, real-rows, GoodStore, good, good-is, demand3-board}
@@ -98,10 +97,6 @@ module _ (s : List ℕ) (long : length s ≡ 256) where
   dropped-trips = trips-back second all-off second-long
 
 -- ---- one message: the arrays that it leaves stand for the board that `recordCall` leaves
-
-no-abort : (said : Message) → is-abort said ≡ false → said ≡ GiveUp → ⊥
-unfolding is-abort
-no-abort said e q = let z : _≡_ {A = ℕ} 0 1 = cc (ap is-abort q) in omega arith
 
 kept-acted : (g : Store) (a : Acted) → (spoken-by g a) .store .trips ≡ cond ((spoken-by g a) .reset) all-off (g .trips)
 unfolding spoken-by

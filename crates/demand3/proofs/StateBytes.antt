@@ -18,7 +18,7 @@ use Rattle.sdo.specs.declared.Direction.{Direction}
 use Rattle.sdo.specs.declared.Direction.the-variants.{Neither, Reads, Writes}
 use Rattle.sdo.specs.declared.Transfer.{Transfer}
 use Rattle.sdo.proofs.RecordLaws.{Whole, Small}
-use Rattle.board.specs.State.{direction-of, direction-byte, bit, is-on, record-at, record-tail, record-bytes, trips-place, trips-at, trips-bytes}
+use Rattle.state.specs.State.{direction-of, direction-byte, bit, is-on, record-at, record-tail, record-bytes, trips-place, trips-at, trips-bytes}
 
 -- ---- parts of what was written
 

@@ -12,14 +12,15 @@ use Rattle.order.specs.Gauge.{results, endOf}
 use Rattle.order.specs.Observe.{Done, follow}
 use Rattle.order.specs.Promise.{endsWrite, opsOf, gotOf, Right}
 use Rattle.order.specs.Bytes.{heard, fed, meant, reads, client}
-use Rattle.gauge.specs.Memory.{Store, memory-of, all-off}
+use Rattle.trip.specs.Trip.{all-off}
+use Rattle.gauge.specs.Memory.{Store, memory-of}
 use Rattle.gauge.specs.PowerUp.{fresh-values}
 use Rattle.gauge.specs.Whole.{read-whole}
 use Rattle.sdo.specs.declared.Key.{Key}
 use Rattle.sdo.specs.Eight.{askOf, tellOf}
 use Rattle.sdo.specs.Lines.{gauge, eight, Line, tool, service, twoLines, eightCodec, BoardCall, partsAsked}
 use Rattle.sdo.specs.Records.{RecordBoard, NoReset}
-use Rattle.board.specs.State.{record-at}
+use Rattle.state.specs.State.{record-at}
 use Rattle.board.specs.Gauge.{Sample, bag552}
 use Rattle.board.specs.Calls.{Called, Fed, Shown, Powered, store-of, message-call, power-up-call, sample-call, image-call}
 

@@ -1,5 +1,4 @@
 -- What the plain gauge remembers. Assumes nothing.
-use mathlib.Core.Bool.{Bool, false}
 use mathlib.Core.List.{List}
 use Prim.Native.Nat.{ℕ}
 use Rattle.trip.specs.declared.Trips.{Trips}
@@ -19,7 +18,3 @@ memory-of values block = record { values = values; block = block }
 
 abbrev pub with-values : Memory → List ℕ → Memory
 with-values m values = memory-of values (m .block)
-
--- "trips off"
-abbrev pub all-off : Trips
-all-off = record { one = record { high = false; low = false }; two = record { high = false; low = false } }

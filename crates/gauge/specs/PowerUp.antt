@@ -6,7 +6,7 @@ use lib.ListN.{replicate}
 use Rattle.table.specs.Rows.{rows}
 use Rattle.entry.specs.Entry.{defaults}
 use Rattle.block.specs.Saved.{loaded}
-use Rattle.gauge.specs.Memory.{Memory, Store, memory-of, all-off}
+use Rattle.gauge.specs.Memory.{Memory, memory-of}
 
 -- the values after power-up
 unfoldable pub fresh-values : List ℕ → List ℕ

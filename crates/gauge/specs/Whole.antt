@@ -12,7 +12,8 @@ use Rattle.entry.specs.Entry.{entry-of, row-verdict}
 use Rattle.entry.specs.Entry as entry
 use Rattle.entry.specs.declared.limits.Verdict.{Verdict}
 use Rattle.card.specs.Card.{card-of, card-verdict, with-card}
-use Rattle.gauge.specs.Memory.{Memory, Store, with-values, all-off}
+use Rattle.trip.specs.Trip.{all-off}
+use Rattle.gauge.specs.Memory.{Memory, Store, with-values}
 use Rattle.gauge.specs.Words.{command-at, read-word}
 use Rattle.gauge.specs.Lock.{locked}
 use Rattle.gauge.specs.Commands.{obeyed}

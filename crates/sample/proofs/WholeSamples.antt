@@ -1,5 +1,4 @@
 -- Example K of document 01 on the whole 1,024 values, then a NaN, and an image: by computation. Assumes nothing.
-use mathlib.Core.Bool.{false}
 use mathlib.Core.Path.{_≡_, refl}
 use mathlib.Core.List.{List, [], _∷_}
 use Prim.Native.Nat.{ℕ, _+_}
@@ -9,7 +8,7 @@ use Rattle.wire.specs.Splice.{splice}
 use Rattle.wire.specs.Little.{little, fromLittle, number, put-number}
 use Rattle.wire.specs.Real.{real}
 use Rattle.trip.specs.declared.Trips.{Trips}
-use Rattle.trip.specs.Trip.{settled, low-next, high-next, point-next, finite, usable-pressure, off, point-after}
+use Rattle.trip.specs.Trip.{settled, low-next, high-next, point-next, finite, usable-pressure, off, point-after, all-off}
 use Rattle.table.specs.Places.{input-value, reading-valid, trip-outputs, settings-1, low-enable, low-level, low-hysteresis, underrange, active-word, latched-word, summary-byte, power-on-time}
 use Rattle.sample.specs.Faults.{kept, with-faults, summary-of, with-summary}
 use Rattle.sample.specs.Sample.{is-set, settings, trips-after, with-reading, trip-word, with-trips, values-after}
@@ -43,9 +42,6 @@ over-samples l t (s ∷ ss) =
     let p = ofBits binary32 (s .pattern) in
     let l′ = values-after l t p (s .valid) (s .faults) (s .seconds) in
     looked l′ ∷ over-samples l′ (trips-after l t p (s .valid)) ss
-
-abbrev pub all-off : Trips
-all-off = record { one = record { high = false; low = false }; two = record { high = false; low = false } }
 
 -- trip point 1: low level 0.5, hysteresis 0.125, only that side enabled; the rest zero
 abbrev pub half-low : List ℕ

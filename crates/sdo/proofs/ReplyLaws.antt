@@ -16,12 +16,13 @@ use Rattle.order.specs.Gauge.{tooLong, tooShort}
 use Rattle.sdo.specs.declared.Key.{Key}
 use Rattle.sdo.specs.declared.Direction.the-variants.{Reads, Writes}
 use Rattle.sdo.specs.declared.Transfer.{Transfer}
+use Rattle.sdo.specs.declared.Opening.the-variants.{Value, Own, Announced, Unsaid}
 use Rattle.sdo.specs.declared.Message.{Message}
-use Rattle.sdo.specs.declared.Message.the-variants.{SendPart, WriteSized, WriteOwn, OpenAnnounced, OpenUnsaid, OpenRead, NextPart, GiveUp, Unknown}
-use Rattle.sdo.specs.Eight.{bit, choice, openingBy, messageOf, asked, askOf, answerOf}
+use Rattle.sdo.specs.declared.Message.the-variants.{SendPart, OpenWrite, OpenRead, NextPart, GiveUp, Unknown}
+use Rattle.sdo.specs.Eight.{keyOf, bit, choice, openingBy, messageOf, asked, askOf, answerOf}
 use Rattle.sdo.specs.Lines.{short}
 use Rattle.sdo.specs.Records.{keyAt, counts}
-use Rattle.sdo.specs.Replies.{Reply, ending, going, committing, refusal, is-reading, turned, partBytes, givenReply, nextPartReply, is-writing, grown, takenReply, sendPartReply, openedRecord, filled, openReadReply, openWriteBy, openWriteReply, valueReply, expeditedReply}
+use Rattle.sdo.specs.Replies.{ending, going, committing, refusal, is-reading, turned, partBytes, givenReply, nextPartReply, is-writing, grown, takenReply, sendPartReply, openedRecord, filled, openReadReply, openWriteBy, openWriteReply, valueReply, expeditedReply}
 use Rattle.sdo.proofs.Facts.{and-right}
 
 and-left : (a b : Bool) → (a && b) ≡ true → a ≡ true
@@ -167,21 +168,21 @@ ask-is m a e = ap (λ (b : Message). asked b m) e
 -- a part has at most seven bytes, a value in an opening at most four
 Counted : Message → Type 0
 Counted (SendPart t n last) = n ≤ 7
-Counted (WriteSized k n) = n ≤ 4
-Counted (WriteOwn k) = Unit {0}
-Counted (OpenAnnounced k n) = Unit {0}
-Counted (OpenUnsaid k) = Unit {0}
+Counted (OpenWrite k (Value n)) = n ≤ 4
+Counted (OpenWrite k Own) = Unit {0}
+Counted (OpenWrite k (Announced n)) = Unit {0}
+Counted (OpenWrite k Unsaid) = Unit {0}
 Counted (OpenRead k) = Unit {0}
 Counted (NextPart t) = Unit {0}
 Counted GiveUp = Unit {0}
 Counted Unknown = Unit {0}
 
-counted-opening : (d c : Bool) (m : List ℕ) → Counted (openingBy d c m)
+counted-opening : (d c : Bool) (k : Key) (m : List ℕ) → Counted (OpenWrite k (openingBy d c m))
 unfolding Counted openingBy
-counted-opening true true m = omega arith
-counted-opening true false m = tt
-counted-opening false true m = tt
-counted-opening false false m = tt
+counted-opening true true k m = omega arith
+counted-opening true false k m = tt
+counted-opening false true k m = tt
+counted-opening false false k m = tt
 
 counted-choice : (n : ℕ) (a₀ a₁ a₂ a₃ a₄ above : Message) → Counted a₀ → Counted a₁ → Counted a₂ → Counted a₃ → Counted a₄ → Counted above
     → Counted (choice n a₀ a₁ a₂ a₃ a₄ above)
@@ -199,12 +200,12 @@ seven-less n = omega arith
 counted-message : (m : List ℕ) → Counted (messageOf m)
 unfolding messageOf Counted
 counted-message m =
-    counted-choice (getD m 0 0 / 32) _ _ _ _ _ _ (seven-less (getD m 0 0 / 2 % 8)) (counted-opening (bit 2 (getD m 0 0)) (bit 1 (getD m 0 0)) m) tt tt tt tt
+    counted-choice (getD m 0 0 / 32) _ _ _ _ _ _ (seven-less (getD m 0 0 / 2 % 8)) (counted-opening (bit 2 (getD m 0 0)) (bit 1 (getD m 0 0)) (keyOf m) m) tt tt tt tt
 
 pub part-count : (m : List ℕ) (t : Bool) (n : ℕ) (last : Bool) → messageOf m ≡ SendPart t n last → n ≤ 7
 unfolding Counted
 part-count m t n last e = subst Counted e (counted-message m)
 
-pub value-count : (m : List ℕ) (k : Key) (n : ℕ) → messageOf m ≡ WriteSized k n → n ≤ 4
+pub value-count : (m : List ℕ) (k : Key) (n : ℕ) → messageOf m ≡ OpenWrite k (Value n) → n ≤ 4
 unfolding Counted
 value-count m k n e = subst Counted e (counted-message m)

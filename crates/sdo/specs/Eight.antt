@@ -10,8 +10,10 @@ use lib.ListN.{length, take, drop, getD, replicate}
 use Rattle.wire.specs.Little.{little, number}
 use Rattle.order.specs.Talk.{announced, own, Request, openRead, nextPart, expedited, openWrite, sendPart, giveUp, unknown, Answer, opened, partGiven, writeOpened, partTaken, refused, wrongToggle, noTransfer, silent}
 use Rattle.sdo.specs.declared.Key.{Key}
+use Rattle.sdo.specs.declared.Opening.{Opening}
+use Rattle.sdo.specs.declared.Opening.the-variants.{Value, Own, Announced, Unsaid}
 use Rattle.sdo.specs.declared.Message.{Message}
-use Rattle.sdo.specs.declared.Message.the-variants.{SendPart, WriteSized, WriteOwn, OpenAnnounced, OpenUnsaid, OpenRead, NextPart, GiveUp, Unknown}
+use Rattle.sdo.specs.declared.Message.the-variants.{SendPart, OpenWrite, OpenRead, NextPart, GiveUp, Unknown}
 
 -- "Index is bytes 1-2 little-endian, subindex byte 3"
 abbrev pub keyOf : List ℕ → Key
@@ -39,13 +41,13 @@ choice (suc (suc (suc (suc (suc n))))) a₀ a₁ a₂ a₃ a₄ above = above
 
 -- "1, open a write. Bit 1 set: value in bytes 4-7; with bit 0 set, bits 3..2 give the unused bytes, else the entry's own length is meant ..
 -- Bit 1 clear: length announced in bytes 4-7 if bit 0 is set, else unknown"
-unfoldable pub openingBy : Bool → Bool → List ℕ → Message
-openingBy true true m = WriteSized (keyOf m) (4 - getD m 0 0 / 4 % 4)
-openingBy true false m = WriteOwn (keyOf m)
-openingBy false true m = OpenAnnounced (keyOf m) (number m 4 4)
-openingBy false false m = OpenUnsaid (keyOf m)
+unfoldable pub openingBy : Bool → Bool → List ℕ → Opening
+openingBy true true m = Value (4 - getD m 0 0 / 4 % 4)
+openingBy true false m = Own
+openingBy false true m = Announced (number m 4 4)
+openingBy false false m = Unsaid
 
-abbrev pub openingOf : List ℕ → Message
+abbrev pub openingOf : List ℕ → Opening
 openingOf m = openingBy (bit 2 (getD m 0 0)) (bit 1 (getD m 0 0)) m
 
 -- what a message says; a part is laid out as an answer's: "toggle in bit 4, unused bytes of seven in bits 3..1, bit 0 set on the last part"
@@ -54,7 +56,7 @@ unfolding choice openingBy
 messageOf m =
     choice (getD m 0 0 / 32)
     (SendPart (bit 16 (getD m 0 0)) (7 - getD m 0 0 / 2 % 8) (bit 1 (getD m 0 0)))
-    (openingOf m)
+    (OpenWrite (keyOf m) (openingOf m))
     (OpenRead (keyOf m))
     (NextPart (bit 16 (getD m 0 0)))
     GiveUp
@@ -63,10 +65,10 @@ messageOf m =
 -- the same with the bytes of a write, which stand in the message
 unfoldable pub asked : Message → List ℕ → Request Key
 asked (SendPart t n last) m = sendPart t (take n (drop 1 m)) last
-asked (WriteSized k n) m = expedited k (announced n) (take n (drop 4 m))
-asked (WriteOwn k) m = expedited k own (take 4 (drop 4 m))
-asked (OpenAnnounced k n) m = openWrite k (some n) []
-asked (OpenUnsaid k) m = openWrite k none []
+asked (OpenWrite k (Value n)) m = expedited k (announced n) (take n (drop 4 m))
+asked (OpenWrite k Own) m = expedited k own (take 4 (drop 4 m))
+asked (OpenWrite k (Announced n)) m = openWrite k (some n) []
+asked (OpenWrite k Unsaid) m = openWrite k none []
 asked (OpenRead k) m = openRead k
 asked (NextPart t) m = nextPart t
 asked GiveUp m = giveUp

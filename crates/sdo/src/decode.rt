@@ -1,9 +1,10 @@
 // What a message says.
 use crate::Key;
 use crate::Message;
+use crate::Opening;
 use wire::wide;
 ghost use mathlib.Core.Path.{_≡_};
-ghost use Prim.Native.Nat.{_≤_, _<_};
+ghost use Prim.Native.Nat.{_≤_};
 ghost use lib.ListN.{length};
 ghost use Rattle.sdo.specs.Eight.{bit, keyOf, openingOf, messageOf};
 
@@ -27,21 +28,21 @@ pub fn key_of(m: &[u8]) -> Key
 }
 
 // The opening of a write: with the value in it or not, with a length or not.
-pub fn opening_of(m: &[u8]) -> Message
+pub fn opening_of(m: &[u8]) -> Opening
     requires { ⌜ length (now m) ≡ 8 ⌝ }
     ensures { λ r. ⌜ r ≡ openingOf (now (m .entry)) ⌝ }
 {
     let first = m[0];
     if bit_of(2, first) {
         if bit_of(1, first) {
-            return Message::WriteSized(key_of(m), 4 - wide::to_usize(first / 4 % 4));
+            return Opening::Value(4 - wide::to_usize(first / 4 % 4));
         }
-        return Message::WriteOwn(key_of(m));
+        return Opening::Own;
     }
     if bit_of(1, first) {
-        return Message::OpenAnnounced(key_of(m), wire::word_at(m, 4));
+        return Opening::Announced(wire::word_at(m, 4));
     }
-    Message::OpenUnsaid(key_of(m))
+    Opening::Unsaid
 }
 
 pub fn message_of(m: &[u8]) -> Message
@@ -56,7 +57,7 @@ pub fn message_of(m: &[u8]) -> Message
             7 - wide::to_usize(first / 2 % 8),
             bit_of(1, first),
         ),
-        1 => opening_of(m),
+        1 => Message::OpenWrite(key_of(m), opening_of(m)),
         2 => Message::OpenRead(key_of(m)),
         3 => Message::NextPart(bit_of(16, first)),
         4 => Message::GiveUp,

@@ -9,14 +9,20 @@ pub struct Key {
     pub sub: u8,
 }
 
+// How a write is opened. The value stands in the message, of so many bytes or of the entry's own length; or parts follow, their length
+// announced or not said.
+pub enum Opening {
+    Value(usize),
+    Own,
+    Announced(u32),
+    Unsaid,
+}
+
 // What a message says. The bytes of a write stay in the message; their count stands here.
 pub enum Message {
     // toggle, count of bytes, last
     SendPart(bool, usize, bool),
-    WriteSized(Key, usize),
-    WriteOwn(Key),
-    OpenAnnounced(Key, u32),
-    OpenUnsaid(Key),
+    OpenWrite(Key, Opening),
     OpenRead(Key),
     NextPart(bool),
     GiveUp,

@@ -6,6 +6,7 @@ use lib.Ieee.{Float, nan, inf, fin, binary32, ofBits, lt, add, sub}
 use Rattle.trip.specs.declared.Side.{Side}
 use Rattle.trip.specs.declared.Point.{Point}
 use Rattle.trip.specs.declared.On.{On}
+use Rattle.trip.specs.declared.Trips.{Trips}
 
 -- "else it stays (off, if lent settings make both hold)"; "a disabled side is off"
 unfoldable pub settled : (enabled on off was : Bool) → Bool
@@ -44,3 +45,7 @@ pick-on false a b = b
 -- a sample that is not valid: "both trips are off"
 unfoldable pub point-after : Point → On → Float → ℕ → On
 point-after point was p valid = pick-on (usable-pressure p valid) (point-next point was p) off
+
+-- "trips off": both points
+abbrev pub all-off : Trips
+all-off = record { one = record { high = false; low = false }; two = record { high = false; low = false } }

@@ -2,7 +2,7 @@
 use mathlib.Core.Path.{_≡_, refl}
 use native.Mathlib.Omega.{arith}
 use borrow.Author.Needs.{needs}
-use Rattle.board.specs.State.{record-place}
+use Rattle.state.specs.State.{record-place}
 use Rattle.board.proofs.place_of.Statement.{statement}
 use Rattle.board.proofs.place_of.Tie as tie
 

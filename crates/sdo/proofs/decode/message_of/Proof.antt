@@ -24,11 +24,14 @@ sub-t11 c = search needs
 bit-of-requires-2 : tie.Need-bit-of-requires-2
 bit-of-requires-2 c κs = search needs
 
+key-of-requires : tie.Need-key-of-requires
+key-of-requires c κs = search needs
+
 opening-of-requires : tie.Need-opening-of-requires
 opening-of-requires c κs = search needs
 
-key-of-requires : tie.Need-key-of-requires
-key-of-requires c κs = search needs
+key-of-requires-2 : tie.Need-key-of-requires-2
+key-of-requires-2 c κs = search needs
 
 bit-of-requires-3 : tie.Need-bit-of-requires-3
 bit-of-requires-3 c κs = search needs
@@ -39,11 +42,11 @@ returns c = rw (c .before .before .before .match .keys1, c .before .before .bit-
 
 returns-2 : tie.Need-returns-2
 unfolding messageOf choice
-returns-2 c = rw (c .before .match .keys2, c .opening-of .ensures)
+returns-2 c = rw (c .before .before .match .keys2, c .before .key-of .ensures, c .opening-of .ensures)
 
 returns-3 : tie.Need-returns-3
 unfolding messageOf choice
-returns-3 c = rw (c .before .match .keys3, c .key-of .ensures)
+returns-3 c = rw (c .before .match .keys3, c .key-of2 .ensures)
 
 returns-4 : tie.Need-returns-4
 unfolding messageOf choice
@@ -70,8 +73,9 @@ message-of-spec =
     to-usize-requires
     sub-t11
     bit-of-requires-2
-    opening-of-requires
     key-of-requires
+    opening-of-requires
+    key-of-requires-2
     bit-of-requires-3
     returns
     returns-2

@@ -1,0 +1,66 @@
+-- What an open gate says, and the replies through gates. Assumes nothing.
+use mathlib.Core.Path.{_≡_, refl, sym, _∙_}
+use mathlib.Core.Bool.{Bool, true, false, cond}
+use mathlib.Core.List.{List}
+use Prim.Native.Nat.{ℕ, _<_}
+use native.Mathlib.Omega.{arith}
+use lib.Dec.{eqb}
+use borrow.Author.Tests.{eqb-false}
+use Rattle.order.specs.Talk.{refused}
+use Rattle.table.specs.Rows.{at-row, row-count}
+use Rattle.table.specs.Find.{find-row}
+use Rattle.table.specs.declared.Found.{Found}
+use Rattle.table.specs.declared.Found.the-variants.{At, NoIndex, NoSub}
+use Rattle.table.proofs.Table.{find-at}
+use Rattle.gauge.specs.Gates.{gate}
+use Rattle.gauge.specs.Whole.{value-of}
+use Rattle.gauge.specs.declared.gate.Gate.{Gate}
+use Rattle.gauge.specs.declared.gate.Gate.the-variants.{Open, Shut}
+use Rattle.sdo.specs.declared.Key.{Key}
+use Rattle.sdo.specs.Eight.{answerOf}
+use Rattle.sdo.specs.Records.{keyAt}
+use Rattle.sdo.specs.Replies.{Reply, ending, filled, openReadReply}
+use Rattle.sdo.proofs.RecordLaws.{found-key}
+use Rattle.line.specs.Answering.{through, open-read}
+
+-- an open gate's row was found, and its access is not the barred one
+pub record Opened (barred index sub row : ℕ) : Type 0 where
+  pub found : find-row index sub ≡ At row
+  pub allowed : at-row row .access ≡ barred → ⊥
+
+pub opened : (barred code index sub row : ℕ) (f : Found) → find-row index sub ≡ f → gate barred code f ≡ Open row → Opened barred index sub row
+unfolding gate
+opened barred code index sub row (At r) e g = go (eqb (at-row r .access) barred) refl g
+  where
+    go : (b : Bool) → eqb (at-row r .access) barred ≡ b → cond b (Shut code) (Open r) ≡ Open row → Opened barred index sub row
+    go true q h = let z : _≡_ {A = ℕ} 0 1 = cc in absurd (omega arith)
+    go false q h = let z : r ≡ row = cc in rw (← z) (record { found = e; allowed = eqb-false (at-row r .access) barred q })
+opened barred code index sub row NoIndex e g = let z : _≡_ {A = ℕ} 0 1 = cc in absurd (omega arith)
+opened barred code index sub row NoSub e g = let z : _≡_ {A = ℕ} 0 1 = cc in absurd (omega arith)
+
+module _ (barred code index sub row : ℕ) {g : Gate} (gated : g ≡ gate barred code (find-row index sub)) (is-open : g ≡ Open row) where
+  pub opened-by : Opened barred index sub row
+  opened-by = opened barred code index sub row (find-row index sub) refl (sym gated ∙ is-open)
+
+  pub open-there : row < row-count
+  open-there = find-at index sub row (opened-by .found) .there
+
+-- the key of a row that it opens
+pub open-key : (barred code row : ℕ) (k : Key) {g : Gate} → g ≡ gate barred code (find-row (k .index) (k .sub)) → g ≡ Open row → k ≡ keyAt row
+open-key barred code row k e o = found-key k row (opened-by barred code (k .index) (k .sub) row e o .found)
+
+-- ---- the replies
+
+module _ (barred code : ℕ) (k : Key) (f : ℕ → Reply) {g : Gate} (gated : g ≡ gate barred code (find-row (k .index) (k .sub))) where
+  pub shut-reply : (c : ℕ) → g ≡ Shut c → ending (answerOf (refused k c)) ≡ through (gate barred code (find-row (k .index) (k .sub))) k f
+  unfolding through
+  shut-reply c q = rw (sym gated ∙ q)
+
+  pub open-reply : (row : ℕ) → g ≡ Open row → f row ≡ through (gate barred code (find-row (k .index) (k .sub))) k f
+  unfolding through
+  open-reply row q = rw (sym gated ∙ q)
+
+pub read-reply : (values : List ℕ) (row : ℕ) {held : List ℕ} {len : ℕ} {x : Reply} → held ≡ filled (value-of (at-row row) values) → len ≡ at-row row .len
+    → x ≡ openReadReply row held len → x ≡ open-read values row
+unfolding open-read
+read-reply values row eh el e = e ∙ rw (eh, el)

@@ -1,0 +1,62 @@
+-- `line::read::open_read`: each return is one law, given what the calls ensure. Assumes nothing.
+use mathlib.Core.Path.{ap, _∙_}
+use borrow.Author.Needs.{needs}
+use Rattle.table.specs.Row.{WO}
+use Rattle.gauge.specs.Gates.{write-only}
+use Rattle.line.specs.Answering.{replied, open-read}
+use Rattle.line.proofs.Doors.{open-there, open-key, open-reply, shut-reply}
+use Rattle.line.proofs.read.open_read.Statement.{statement}
+use Rattle.line.proofs.read.open_read.Tie as tie
+
+to-read-requires : tie.Need-to-read-requires
+to-read-requires c κs = search needs
+
+enum-known-gate : tie.Need-enum-known-gate
+enum-known-gate c = search needs
+
+open-row-requires : tie.Need-open-row-requires
+open-row-requires c κs =
+    let s = c .before .before .before .before .before .before .before in
+    let k = s .args .k in
+    let row = c .before .before .gate .given .0 .0 in
+    (s .pre .0, s .pre .1, open-there WO write-only (k .index) (k .sub) row (c .before .before .before .before .to-read .ensures) (c .before .before .gate .given .1), open-key WO write-only row k (c .before .before .before .before .to-read .ensures) (c .before .before .gate .given .1))
+
+enum-known-gate-2 : tie.Need-enum-known-gate-2
+enum-known-gate-2 c = search needs
+
+refused-requires : tie.Need-refused-requires
+refused-requires c κs = search needs
+
+same-length : tie.Need-same-length
+same-length c = search needs
+
+returns : tie.Need-returns
+returns c =
+    let s = c .before .before .before .before .before .before .before .before .before .before in
+    let p = s .args .at in
+    let o = s .args .state .now in
+    c .before .before .open-row .ensures ∙ ap (replied p o) (open-reply WO write-only (s .args .k) (open-read (s .args .values .now)) (c .before .before .before .before .before .before .before .to-read .ensures) (c .before .before .before .before .before .gate .given .0 .0) (c .before .before .before .before .before .gate .given .1))
+
+same-length-2 : tie.Need-same-length-2
+same-length-2 c = search needs
+
+returns-2 : tie.Need-returns-2
+returns-2 c =
+    let s = c .before .before .before .before .before .before .before .before .before .before in
+    let p = s .args .at in
+    let o = s .args .state .now in
+    c .before .before .refused .ensures ∙ ap (replied p o) (shut-reply WO write-only (s .args .k) (open-read (s .args .values .now)) (c .before .before .before .before .before .before .before .to-read .ensures) (c .before .before .before .before .before .gate2 .given .0 .0) (c .before .before .before .before .before .gate2 .given .1))
+
+pub open-read-spec : {M : Type 1} → statement M
+open-read-spec =
+    tie.close
+    (tie.spec
+    to-read-requires
+    enum-known-gate
+    open-row-requires
+    enum-known-gate-2
+    refused-requires
+    same-length
+    returns
+    same-length-2
+    returns-2)

@@ -1,0 +1,76 @@
+// Reads on a line: openings and parts.
+use crate::reply;
+use gauge::gate;
+use gauge::gate::Gate;
+use sdo::Direction;
+use sdo::Key;
+use sdo::Transfer;
+use sdo::answer;
+use sdo::record;
+ghost use mathlib.Core.Path.{_≡_};
+ghost use Prim.Native.Nat.{_+_, _≤_, _<_};
+ghost use lib.ListN.{length};
+ghost use Rattle.table.specs.Rows.{row-count};
+ghost use Rattle.table.specs.Find.{find-row};
+ghost use Rattle.gauge.specs.Gates.{read-gate};
+ghost use Rattle.sdo.specs.Records.{keyAt};
+ghost use Rattle.sdo.specs.Replies.{givenReply, nextPartReply};
+ghost use Rattle.state.specs.State.{record-at};
+ghost use Rattle.line.specs.Answering.{kept, replied, through, open-read};
+
+// The next part of a read that counts.
+fn give_part(state: &mut [u8], at: usize, t: Transfer) -> [u8; 8]
+    requires { ⌜ (at + 70 ≤ length (now state)) × (t .len ≤ 64) × (t .place ≤ t .len) ⌝ }
+    ensures { λ r. ⌜ kept (now (state .exit)) r ≡ replied at (now (state .entry)) (givenReply t) ⌝ }
+{
+    let held = t.held;
+    let len = t.len;
+    let place = t.place;
+    let eight = answer::part_given(&held, len, place, t.toggle);
+    if len <= place + 7 {
+        return reply::ended(state, at, eight);
+    }
+    reply::going(state, at, record::turned(t), eight)
+}
+
+pub fn next_part(state: &mut [u8], at: usize, toggle: bool) -> [u8; 8]
+    requires { ⌜ at + 70 ≤ length (now state) ⌝ }
+    ensures { λ r. ⌜ kept (now (state .exit)) r ≡ replied at (now (state .entry)) (nextPartReply (record-at (now (state .entry)) at) toggle) ⌝ }
+{
+    let t = state::record_at(state, at);
+    let row = t.row;
+    let expected = t.toggle;
+    if record::reading(t) {
+        if expected == toggle {
+            return give_part(state, at, t);
+        }
+        return reply::ended(state, at, answer::wrong_toggle(record::key_at(row)));
+    }
+    reply::ended(state, at, answer::no_transfer())
+}
+
+// A read is opened on the row of its key.
+fn open_row(values: &[u8], state: &mut [u8], at: usize, k: Key, row: usize) -> [u8; 8]
+    requires { ⌜ (length (now values) ≡ 1024) × (at + 70 ≤ length (now state)) × (row < row-count) × (k ≡ keyAt row) ⌝ }
+    ensures { λ r. ⌜ kept (now (state .exit)) r ≡ replied at (now (state .entry)) (open-read (now (values .entry)) row) ⌝ }
+{
+    let kind = table::field::kind_of(row);
+    let len = table::field::len_by(row, kind);
+    let held = gauge::read::value_of(values, row, k.index, kind, len);
+    if answer::is_short(len) {
+        return reply::ended(state, at, answer::opened_short(k, &held, len));
+    }
+    let next = record::opened(Direction::Reads, row, held, len);
+    reply::going(state, at, next, answer::opened_long(k, len))
+}
+
+pub fn open_read(values: &[u8], state: &mut [u8], at: usize, k: Key) -> [u8; 8]
+    requires { ⌜ (length (now values) ≡ 1024) × (at + 70 ≤ length (now state)) ⌝ }
+    ensures { λ r. ⌜ kept (now (state .exit)) r ≡ replied at (now (state .entry)) (through (read-gate (find-row (k .index) (k .sub))) k (open-read (now (values .entry)))) ⌝ }
+{
+    let gate = gate::to_read(k.index, k.sub);
+    match gate {
+        Gate::Open(row) => open_row(values, state, at, k, row),
+        Gate::Shut(code) => reply::refused(state, at, k, code),
+    }
+}

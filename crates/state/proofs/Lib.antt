@@ -1,0 +1,2 @@
+pub mod InARow
+pub mod StateLaws

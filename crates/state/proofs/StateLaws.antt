@@ -1,0 +1,64 @@
+-- The state bytes as the code reads and writes them: each law takes what the calls ensure. Assumes nothing.
+use mathlib.Core.Path.{_≡_, refl}
+use mathlib.Core.Bool.{Bool}
+use mathlib.Core.List.{List, _++_, append-assoc}
+use Prim.Native.Nat.{ℕ, _+_, _≤_}
+use native.Mathlib.Omega.{arith}
+use lib.ListN.{length, take, drop, replicate, length-append}
+use lib.Seq.{take-all}
+use Rattle.wire.specs.Splice.{splice}
+use Rattle.wire.specs.Little.{little, number}
+use Rattle.wire.proofs.LittleLaws.{length-little}
+use Rattle.wire.proofs.SpliceLaws.{splice-whole, part-length}
+use Rattle.trip.specs.declared.Trips.{Trips}
+use Rattle.sdo.specs.declared.Direction.{Direction}
+use Rattle.sdo.specs.declared.Transfer.{Transfer}
+use Rattle.sdo.specs.Records.{allZero}
+use Rattle.state.specs.State.{direction-of, direction-byte, bit, is-on, record-at, record-tail, record-bytes, trips-place, trips-bytes}
+use Rattle.state.proofs.InARow.{then, four-in-a-row}
+
+pub record-read : (s : List ℕ) (at : ℕ) {held : List ℕ} {row len place : ℕ} {d : Direction} {toggle : Bool} → at + 70 ≤ length s
+    → held ≡ splice (replicate 64 0) 0 (take 64 (drop at s)) → row ≡ number s (at + 64) 2 → d ≡ direction-of (number s (at + 66) 1)
+    → len ≡ number s (at + 67) 1 → place ≡ number s (at + 68) 1 → toggle ≡ is-on s (at + 69)
+    → _≡_ {A = Transfer} (record { held = held; row = row; direction = d; len = len; place = place; toggle = toggle }) (record-at s at)
+unfolding record-at
+record-read s at h eh er ed el ep et =
+    rw (eh, er, ed, el, ep, et, splice-whole (replicate 64 0) (take 64 (drop at s)) (part-length s at 64 (omega arith)))
+
+module _ (l : List ℕ) (at : ℕ) (t : Transfer) (room : at + 70 ≤ length l) where
+  pub tail-put : {l₁ l₂ l₃ l₄ l₅ : List ℕ} {d b : ℕ} → l₁ ≡ splice l (at + 64) (little 2 (t .row)) → d ≡ direction-byte (t .direction)
+      → l₂ ≡ splice l₁ (at + 66) (little 1 d) → l₃ ≡ splice l₂ (at + 67) (little 1 (t .len)) → l₄ ≡ splice l₃ (at + 68) (little 1 (t .place))
+      → b ≡ bit (t .toggle) → l₅ ≡ splice l₄ (at + 69) (little 1 b) → l₅ ≡ splice l (at + 64) (record-tail t)
+  unfolding record-tail
+  tail-put e₁ ed e₂ e₃ e₄ eb e₅ =
+      let four : List ℕ = little 2 (t .row) ++ (little 1 (direction-byte (t .direction)) ++ (little 1 (t .len) ++ little 1 (t .place))) in
+      let long : length four ≡ 5 = simp (length-append, length-little) in
+      let last : length (little 1 (bit (t .toggle))) ≡ 1 = length-little 1 (bit (t .toggle)) in
+      rw (e₅, e₄, e₃, e₂, e₁, ed, eb)
+      (rw (
+        four-in-a-row l (at + 64) (at + 66) (at + 67) (at + 68) 2 (t .row) (direction-byte (t .direction)) (t .len) (t .place) (omega arith) (omega arith) (omega arith) (omega arith),
+        then l (at + 64) (at + 69) four (little 1 (bit (t .toggle))) (omega arith) (omega arith),
+      )
+      (simp append-assoc))
+
+  pub record-put : {l₁ l₂ : List ℕ} → length (t .held) ≡ 64 → l₁ ≡ splice l at (take 64 (drop 0 (t .held))) → l₂ ≡ splice l₁ (at + 64) (record-tail t)
+      → l₂ ≡ splice l at (record-bytes t)
+  unfolding record-bytes record-tail
+  record-put n e₁ e₂ =
+      let tail : List ℕ = record-tail t in
+      let long : length tail ≡ 6 = simp (length-append, length-little) in
+      rw (e₂, e₁, take-all 64 (t .held) (omega arith)) (then l at (at + 64) (t .held) tail (omega arith) (omega arith))
+
+-- an ended transfer's record
+pub record-cleared : (l : List ℕ) (at : ℕ) {l′ : List ℕ} → l′ ≡ splice l at (take 70 (drop 0 (replicate 70 0))) → l′ ≡ splice l at (record-bytes allZero)
+unfolding record-bytes record-tail direction-byte little
+record-cleared l at e = e
+
+pub trips-put : (l : List ℕ) (t : Trips) {l₁ l₂ l₃ l₄ : List ℕ} {a b c d : ℕ} → length l ≡ 256
+    → a ≡ bit (t .one .high) → l₁ ≡ splice l trips-place (little 1 a) → b ≡ bit (t .one .low) → l₂ ≡ splice l₁ (trips-place + 1) (little 1 b)
+    → c ≡ bit (t .two .high) → l₃ ≡ splice l₂ (trips-place + 2) (little 1 c) → d ≡ bit (t .two .low) → l₄ ≡ splice l₃ (trips-place + 3) (little 1 d)
+    → l₄ ≡ splice l trips-place (trips-bytes t)
+unfolding trips-bytes
+trips-put l t n ea e₁ eb e₂ ec e₃ ed e₄ =
+    rw (e₄, e₃, e₂, e₁, ea, eb, ec, ed)
+    (four-in-a-row l trips-place (trips-place + 1) (trips-place + 2) (trips-place + 3) 1 (bit (t .one .high)) (bit (t .one .low)) (bit (t .two .high)) (bit (t .two .low)) refl refl refl (omega arith))

@@ -1,0 +1,72 @@
+-- The 256 state bytes, as docs/STATE.md lays them out: both transfer records and the trip states. Assumes nothing.
+use mathlib.Core.Bool.{Bool, cond, not}
+use mathlib.Core.List.{List, _++_}
+use Prim.Native.Nat.{ℕ, _+_, _*_}
+use lib.Dec.{eqb}
+use lib.ListN.{take, drop}
+use Rattle.wire.specs.Little.{little, number}
+use Rattle.wire.specs.Splice.{splice}
+use Rattle.trip.specs.declared.Trips.{Trips}
+use Rattle.trip.specs.Trip.{all-off}
+use Rattle.sdo.specs.declared.Direction.{Direction}
+use Rattle.sdo.specs.declared.Direction.the-variants.{Neither, Reads, Writes}
+use Rattle.sdo.specs.declared.Transfer.{Transfer}
+use Rattle.sdo.specs.Records.{allZero}
+
+-- "line 0 the tool, line 1 service"
+unfoldable pub record-place : ℕ → ℕ
+record-place line = 96 * line
+
+abbrev pub trips-place : ℕ
+trips-place = 192
+
+-- direction: 1 read, 2 write, any other value none
+unfoldable pub direction-of : ℕ → Direction
+direction-of n = cond (eqb n 1) Reads (cond (eqb n 2) Writes Neither)
+
+unfoldable pub direction-byte : Direction → ℕ
+direction-byte Neither = 0
+direction-byte Reads = 1
+direction-byte Writes = 2
+
+abbrev pub bit : Bool → ℕ
+bit b = cond b 1 0
+
+-- "a trip byte other than 0 being on"; so is a toggle's
+unfoldable pub is-on : List ℕ → ℕ → Bool
+is-on s at = not (eqb (number s at 1) 0)
+
+-- the record that stands from a byte on
+unfoldable pub record-at : List ℕ → ℕ → Transfer
+record-at s at =
+    record {
+      held = take 64 (drop at s);
+      row = number s (at + 64) 2;
+      direction = direction-of (number s (at + 66) 1);
+      len = number s (at + 67) 1;
+      place = number s (at + 68) 1;
+      toggle = is-on s (at + 69);
+    }
+
+-- what stands behind its held bytes, and all its 70 bytes
+unfoldable pub record-tail : Transfer → List ℕ
+record-tail t =
+    little 2 (t .row) ++ (little 1 (direction-byte (t .direction)) ++ (little 1 (t .len) ++ (little 1 (t .place) ++ little 1 (bit (t .toggle)))))
+
+unfoldable pub record-bytes : Transfer → List ℕ
+record-bytes t = t .held ++ record-tail t
+
+-- the trip states: point 1 high and low, point 2 high and low
+unfoldable pub trips-at : List ℕ → Trips
+trips-at s =
+    record {
+      one = record { high = is-on s trips-place; low = is-on s (trips-place + 1) };
+      two = record { high = is-on s (trips-place + 2); low = is-on s (trips-place + 3) };
+    }
+
+unfoldable pub trips-bytes : Trips → List ℕ
+trips-bytes t = little 1 (bit (t .one .high)) ++ (little 1 (bit (t .one .low)) ++ (little 1 (bit (t .two .high)) ++ little 1 (bit (t .two .low))))
+
+-- power-up and device reset: "trips off", "both transfer records all zero whatever they held"
+unfoldable pub dropped : List ℕ → List ℕ
+dropped state = splice (splice (splice state 0 (record-bytes allZero)) 96 (record-bytes allZero)) trips-place (trips-bytes all-off)

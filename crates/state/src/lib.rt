@@ -1,0 +1,143 @@
+// The 256 state bytes: transfer records and trip states by value, and back.
+use sdo::Direction;
+use sdo::Transfer;
+use trip::On;
+use trip::Trips;
+use wire::wide;
+ghost use mathlib.Core.Path.{_≡_};
+ghost use Prim.Native.Nat.{_+_, _≤_, _<_};
+ghost use lib.ListN.{length};
+ghost use Rattle.wire.specs.Splice.{splice};
+ghost use Rattle.sdo.specs.Records.{allZero};
+ghost use Rattle.state.specs.State.{record-at, record-tail, record-bytes, trips-place, trips-at, trips-bytes, direction-of, direction-byte, is-on, bit, dropped};
+
+fn direction_of(n: u8) -> Direction
+    ensures { λ r. ⌜ r ≡ direction-of n ⌝ }
+{
+    if n == 1 {
+        return Direction::Reads;
+    }
+    if n == 2 {
+        return Direction::Writes;
+    }
+    Direction::Neither
+}
+
+fn direction_byte(d: Direction) -> u8
+    ensures { λ r. ⌜ r ≡ direction-byte d ⌝ }
+{
+    match d {
+        Direction::Neither => 0,
+        Direction::Reads => 1,
+        Direction::Writes => 2,
+    }
+}
+
+fn bit_of(b: bool) -> u8
+    ensures { λ r. ⌜ r ≡ bit b ⌝ }
+{
+    if b { 1 } else { 0 }
+}
+
+fn is_on(state: &[u8], at: usize) -> bool
+    requires { ⌜ at + 1 ≤ length (now state) ⌝ }
+    ensures { λ r. ⌜ r ≡ is-on (now (state .entry)) at ⌝ }
+{
+    wire::byte_at(state, at) != 0
+}
+
+// The record that stands from a byte on.
+pub fn record_at(state: &[u8], at: usize) -> Transfer
+    requires { ⌜ at + 70 ≤ length (now state) ⌝ }
+    ensures { λ r. ⌜ r ≡ record-at (now (state .entry)) at ⌝ }
+{
+    let mut held = [0u8; 64];
+    wire::copy_at(&mut held, 0, state, at, 64);
+    let row = wire::number_at(state, at + 64, 2) as usize;
+    let direction = direction_of(wire::byte_at(state, at + 66));
+    let len = wide::to_usize(wire::byte_at(state, at + 67));
+    let place = wide::to_usize(wire::byte_at(state, at + 68));
+    let toggle = is_on(state, at + 69);
+    Transfer {
+        held,
+        row,
+        direction,
+        len,
+        place,
+        toggle,
+    }
+}
+
+// What stands behind the held bytes: row, direction, length, place, toggle.
+fn put_tail(state: &mut [u8], at: usize, t: Transfer)
+    requires { ⌜ at + 70 ≤ length (now state) ⌝ }
+    ensures { λ _. ⌜ now (state .exit) ≡ splice (now (state .entry)) (at + 64) (record-tail t) ⌝ }
+{
+    let direction = t.direction;
+    wire::put_number(state, at + 64, 2, t.row as u64);
+    wire::put_byte(state, at + 66, direction_byte(direction));
+    wire::put_number(state, at + 67, 1, t.len as u64);
+    wire::put_number(state, at + 68, 1, t.place as u64);
+    wire::put_byte(state, at + 69, bit_of(t.toggle));
+}
+
+// Makes a record all zero.
+pub fn clear_record(state: &mut [u8], at: usize)
+    requires { ⌜ at + 70 ≤ length (now state) ⌝ }
+    ensures { λ _. ⌜ now (state .exit) ≡ splice (now (state .entry)) at (record-bytes allZero) ⌝ }
+{
+    let zeros = [0u8; 70];
+    wire::copy_at(state, at, &zeros, 0, 70);
+}
+
+// Writes a record's 70 bytes.
+pub fn put_record(state: &mut [u8], at: usize, t: Transfer)
+    requires { ⌜ at + 70 ≤ length (now state) ⌝ }
+    ensures { λ _. ⌜ now (state .exit) ≡ splice (now (state .entry)) at (record-bytes t) ⌝ }
+{
+    let held = t.held;
+    wire::copy_at(state, at, &held, 0, 64);
+    put_tail(state, at, t);
+}
+
+// The trip states; a byte other than 0 is on.
+pub fn trips_at(state: &[u8]) -> Trips
+    requires { ⌜ length (now state) ≡ 256 ⌝ }
+    ensures { λ r. ⌜ r ≡ trips-at (now (state .entry)) ⌝ }
+{
+    let one = On {
+        high: is_on(state, 192),
+        low: is_on(state, 193),
+    };
+    let two = On {
+        high: is_on(state, 194),
+        low: is_on(state, 195),
+    };
+    Trips { one, two }
+}
+
+pub fn put_trips(state: &mut [u8], t: Trips)
+    requires { ⌜ length (now state) ≡ 256 ⌝ }
+    ensures { λ _. ⌜ now (state .exit) ≡ splice (now (state .entry)) trips-place (trips-bytes t) ⌝ }
+{
+    let one = t.one;
+    let two = t.two;
+    wire::put_byte(state, 192, bit_of(one.high));
+    wire::put_byte(state, 193, bit_of(one.low));
+    wire::put_byte(state, 194, bit_of(two.high));
+    wire::put_byte(state, 195, bit_of(two.low));
+}
+
+// Both records all zero and the trips off.
+pub fn drop_all(state: &mut [u8])
+    requires { ⌜ length (now state) ≡ 256 ⌝ }
+    ensures { λ _. ⌜ now (state .exit) ≡ dropped (now (state .entry)) ⌝ }
+{
+    let off = On {
+        high: false,
+        low: false,
+    };
+    clear_record(state, 0);
+    clear_record(state, 96);
+    put_trips(state, Trips { one: off, two: off });
+}
