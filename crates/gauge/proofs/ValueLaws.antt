@@ -6,7 +6,7 @@ use mathlib.Core.Logic.{_⊎_, inl, inr}
 use Prim.Native.Nat.{ℕ, _<_, _≤_}
 use native.Mathlib.Omega.{arith}
 use lib.Dec.{T, eqb, eqb→eq}
-use lib.ListN.{length}
+use lib.ListN.{length, take, drop}
 use borrow.Author.Tests.{eqb-true, eqb-false, eq-eqb}
 use Rattle.table.specs.Row.{Row, no-row, CARD, COMMAND}
 use Rattle.table.specs.Rows.{rows, row-count, at-row}
@@ -55,3 +55,12 @@ value-length k h values n = go (is-it (at-row k .kind) CARD) (is-it (at-row k .k
     go (inr c) (inr d) =
         ap length (of-other (at-row k) (at-row k .kind) refl (card-of values) (read-word (command-at (at-row k .index))) (entry-of (at-row k) values) c d)
         ∙ entry-length (at-row k) values (let i = row-rule k h .inside in omega arith) ∙ other-held k h c d
+
+-- an entry that is stored reads as its bytes in the values
+pub stored-value : (k : ℕ) → k < row-count → (values : List ℕ) → at-row k .kind < CARD → value-of (at-row k) values ≡ take (at-row k .len) (drop (at-row k .place) values)
+unfolding value-of entry-of
+stored-value k h values l =
+    let n : at-row k .kind ≡ CARD → ⊥ = λ e. omega arith in
+    let m : at-row k .kind ≡ COMMAND → ⊥ = λ e. omega arith in
+    of-other (at-row k) (at-row k .kind) refl (card-of values) (read-word (command-at (at-row k .index))) (entry-of (at-row k) values) n m
+    ∙ ap (λ (j : ℕ). take j (drop (at-row k .place) values)) (other-held k h n m)

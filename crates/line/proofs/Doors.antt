@@ -1,12 +1,16 @@
 -- What an open gate says, and the replies through gates. Assumes nothing.
-use mathlib.Core.Path.{_≡_, refl, sym, _∙_}
+use mathlib.Core.Path.{_≡_, refl, sym, ap, _∙_}
 use mathlib.Core.Bool.{Bool, true, false, cond}
 use mathlib.Core.List.{List}
 use Prim.Native.Nat.{ℕ, _<_}
+use lib.ListN.{length, take, drop}
+use lib.Seq.{take-length}
 use native.Mathlib.Omega.{arith}
 use lib.Dec.{eqb}
 use borrow.Author.Tests.{eqb-false}
 use Rattle.order.specs.Talk.{refused}
+use Rattle.order.specs.Talk.{opened as told}
+use Rattle.table.specs.Row.{CARD}
 use Rattle.table.specs.Rows.{at-row, row-count}
 use Rattle.table.specs.Find.{find-row}
 use Rattle.table.specs.declared.Found.{Found}
@@ -14,13 +18,16 @@ use Rattle.table.specs.declared.Found.the-variants.{At, NoIndex, NoSub}
 use Rattle.table.proofs.Table.{find-at}
 use Rattle.gauge.specs.Gates.{gate}
 use Rattle.gauge.specs.Whole.{value-of}
+use Rattle.gauge.proofs.ValueLaws.{value-length, stored-value}
 use Rattle.gauge.specs.declared.gate.Gate.{Gate}
 use Rattle.gauge.specs.declared.gate.Gate.the-variants.{Open, Shut}
 use Rattle.sdo.specs.declared.Key.{Key}
 use Rattle.sdo.specs.Eight.{answerOf}
 use Rattle.sdo.specs.Records.{keyAt}
 use Rattle.sdo.specs.Replies.{Reply, ending, filled, openReadReply}
+use Rattle.sdo.specs.Lines.{short}
 use Rattle.sdo.proofs.RecordLaws.{found-key}
+use Rattle.sdo.proofs.ReplyLaws.{filled-value, read-short}
 use Rattle.line.specs.Answering.{through, open-read}
 
 -- an open gate's row was found, and its access is not the barred one
@@ -64,3 +71,19 @@ pub read-reply : (values : List ℕ) (row : ℕ) {held : List ℕ} {len : ℕ} {
     → x ≡ openReadReply row held len → x ≡ open-read values row
 unfolding open-read
 read-reply values row eh el e = e ∙ rw (eh, el)
+
+-- a short read is answered with the value
+module _ (values : List ℕ) (row : ℕ) (there : row < row-count) (long : length values ≡ 1024) {len : ℕ} (el : len ≡ at-row row .len) where
+  value-filled : take len (filled (value-of (at-row row) values)) ≡ value-of (at-row row) values
+  value-filled = filled-value (value-of (at-row row) values) len (value-length row there values long ∙ sym el)
+
+  pub shown-whole : {held : List ℕ} → held ≡ filled (value-of (at-row row) values) → take len held ≡ value-of (at-row row) values
+  shown-whole e = ap (take len) e ∙ value-filled
+
+  pub shown-part : {part : List ℕ} → at-row row .kind < CARD → part ≡ take len (drop (at-row row .place) values) → take len part ≡ value-of (at-row row) values
+  shown-part l e =
+      let v = stored-value row there values l ∙ ap (λ (n : ℕ). take n (drop (at-row row .place) values)) (sym el) in
+      ap (take len) (e ∙ sym v) ∙ ap (λ (n : ℕ). take n (value-of (at-row row) values)) (el ∙ sym (value-length row there values long)) ∙ take-length (value-of (at-row row) values)
+
+  pub read-shown : {k : Key} {eight : List ℕ} → k ≡ keyAt row → short len ≡ true → eight ≡ answerOf (told k len (value-of (at-row row) values) true) → ending eight ≡ open-read values row
+  read-shown {k} key s e = read-reply values row refl el (read-short row key (filled (value-of (at-row row) values)) len s (e ∙ ap (λ (l : List ℕ). answerOf (told k len l true)) (sym value-filled)))

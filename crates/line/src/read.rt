@@ -7,12 +7,16 @@ use sdo::Key;
 use sdo::Transfer;
 use sdo::answer;
 use sdo::record;
+ghost use mathlib.Core.Bool.{true};
 ghost use mathlib.Core.Path.{_≡_};
 ghost use Prim.Native.Nat.{_+_, _≤_, _<_};
 ghost use lib.ListN.{length};
-ghost use Rattle.table.specs.Rows.{row-count};
+ghost use Rattle.order.specs.Talk.{opened};
+ghost use Rattle.table.specs.Rows.{row-count, at-row};
 ghost use Rattle.table.specs.Find.{find-row};
 ghost use Rattle.gauge.specs.Gates.{read-gate};
+ghost use Rattle.gauge.specs.Whole.{value-of};
+ghost use Rattle.sdo.specs.Eight.{answerOf};
 ghost use Rattle.sdo.specs.Records.{keyAt};
 ghost use Rattle.sdo.specs.Replies.{givenReply, nextPartReply};
 ghost use Rattle.state.specs.State.{record-at};
@@ -49,6 +53,19 @@ pub fn next_part(state: &mut [u8], at: usize, toggle: bool) -> [u8; 8]
     reply::ended(state, at, answer::no_transfer())
 }
 
+// The answer that opens a read of up to four bytes. An entry that stands in the values is shown from there, with no copy.
+fn short_answer(values: &[u8], k: Key, row: usize, kind: u8, len: usize) -> [u8; 8]
+    requires { ⌜ (length (now values) ≡ 1024) × ((row < row-count) × (k ≡ keyAt row)) × (kind ≡ at-row row .kind) × (len ≡ at-row row .len) × ((1 ≤ len) × (len ≤ 4)) ⌝ }
+    ensures { λ r. ⌜ r ≡ answerOf (opened k len (value-of (at-row row) (now (values .entry))) true) ⌝ }
+{
+    if kind < 7 {
+        let place = table::field::place_of(row);
+        return answer::opened_short(k, &values[place..place + len], len);
+    }
+    let held = gauge::read::value_of(values, row, k.index, kind, len);
+    answer::opened_short(k, &held, len)
+}
+
 // A read is opened on the row of its key.
 fn open_row(values: &[u8], state: &mut [u8], at: usize, k: Key, row: usize) -> [u8; 8]
     requires { ⌜ (length (now values) ≡ 1024) × (at + 70 ≤ length (now state)) × (row < row-count) × (k ≡ keyAt row) ⌝ }
@@ -56,10 +73,10 @@ fn open_row(values: &[u8], state: &mut [u8], at: usize, k: Key, row: usize) -> [
 {
     let kind = table::field::kind_of(row);
     let len = table::field::len_by(row, kind);
-    let held = gauge::read::value_of(values, row, k.index, kind, len);
     if answer::is_short(len) {
-        return reply::ended(state, at, answer::opened_short(k, &held, len));
+        return reply::ended(state, at, short_answer(values, k, row, kind, len));
     }
+    let held = gauge::read::value_of(values, row, k.index, kind, len);
     let next = record::opened(Direction::Reads, row, held, len);
     reply::going(state, at, next, answer::opened_long(k, len))
 }

@@ -101,7 +101,7 @@ pub fn is_short(len: usize) -> bool
 
 // The opening of a read of up to four bytes, with the value.
 pub fn opened_short(k: Key, held: &[u8], len: usize) -> [u8; 8]
-    requires { ⌜ ((1 ≤ len) × (len ≤ 4)) × (length (now held) ≡ 64) ⌝ }
+    requires { ⌜ ((1 ≤ len) × (len ≤ 4)) × (len ≤ length (now held)) ⌝ }
     ensures { λ r. ⌜ r ≡ answerOf (opened k len (take len (now (held .entry))) true) ⌝ }
 {
     [

@@ -1,14 +1,13 @@
 -- `line::read::open_row`: each return is one law, given what the calls ensure. Assumes nothing.
 use mathlib.Core.Path.{_≡_, ap, _∙_}
 use native.Mathlib.Omega.{arith}
-use lib.ListN.{length}
 use borrow.Author.Needs.{needs}
 use Rattle.table.proofs.Table.{row-rule}
 use Rattle.sdo.specs.declared.Key.{Key}
 use Rattle.sdo.proofs.Facts.{said}
-use Rattle.sdo.proofs.ReplyLaws.{short-in, read-short, read-long}
+use Rattle.sdo.proofs.ReplyLaws.{short-in, read-long}
 use Rattle.line.specs.Answering.{replied}
-use Rattle.line.proofs.Doors.{read-reply}
+use Rattle.line.proofs.Doors.{read-reply, read-shown}
 use Rattle.line.proofs.read.open_row.Statement.{statement}
 use Rattle.line.proofs.read.open_row.Tie as tie
 
@@ -18,17 +17,14 @@ kind-of-requires c κs = search needs
 len-by-requires : tie.Need-len-by-requires
 len-by-requires c κs = search needs
 
-value-of-requires : tie.Need-value-of-requires
-value-of-requires c κs = let s = c .before .before .before .before in (s .pre .0, s .pre .2, ap (λ (q : Key). q .index) (s .pre .3), c .before .kind-of .ensures, c .len-by .ensures)
-
 is-short-requires : tie.Need-is-short-requires
 is-short-requires c κs = search needs
 
-slice-aggregate-opened-short : tie.Need-slice-aggregate-opened-short
-slice-aggregate-opened-short c = search needs
-
-opened-short-requires : tie.Need-opened-short-requires
-opened-short-requires c κs = let h : length (c .before .before .before .before .value-of .result) ≡ 64 = search needs in (short-in (c .before .before .before .before .before .len-by .result) (said (c .before .before .before .is-short .ensures) (c .before .before .if1 .taken)), h)
+short-answer-requires : tie.Need-short-answer-requires
+short-answer-requires c κs =
+    let l = c .before .before .before in
+    let s = l .before .before .before .before in
+    (s .pre .0, (s .pre .2, s .pre .3), l .before .kind-of .ensures, l .len-by .ensures, short-in (l .len-by .result) (said (c .before .before .is-short .ensures) (c .before .if1 .taken)))
 
 ended-requires : tie.Need-ended-requires
 ended-requires c κs = search needs
@@ -38,16 +34,26 @@ same-length c = search needs
 
 returns : tie.Need-returns
 returns c =
-    let s = c .before .before .before .before .before .before .before .before .before .before .before .before .before in
-    let p = s .args .at in
-    let o = s .args .state .now in
-    c .before .before .ended .ensures ∙ ap (replied p o) (read-reply (s .args .values .now) (s .args .row) (c .before .before .before .before .before .before .before .before .value-of .ensures) (c .before .before .before .before .before .before .before .before .before .len-by .ensures) (read-short (s .args .row) (s .pre .3) (c .before .before .before .before .before .before .before .before .value-of .result) (c .before .before .before .before .before .before .before .before .before .len-by .result) (said (c .before .before .before .before .before .before .before .is-short .ensures) (c .before .before .before .before .before .before .if1 .taken)) (c .before .before .before .opened-short .ensures)))
+    let i = c .before .before .before .before .before in
+    let l = i .before .before in
+    let s = l .before .before .before .before in
+    c .before .before .ended .ensures
+    ∙ ap (replied (s .args .at) (s .args .state .now)) (read-shown (s .args .values .now) (s .args .row) (s .pre .2) (s .pre .0) (l .len-by .ensures) (s .pre .3) (said (i .before .is-short .ensures) (i .if1 .taken)) (c .before .before .before .short-answer .ensures))
+
+value-of-requires : tie.Need-value-of-requires
+value-of-requires c κs =
+    let l = c .before .before in
+    let s = l .before .before .before .before in
+    (s .pre .0, s .pre .2, ap (λ (q : Key). q .index) (s .pre .3), l .before .kind-of .ensures, l .len-by .ensures)
 
 opened-requires : tie.Need-opened-requires
 opened-requires c κs = search needs
 
 opened-long-requires : tie.Need-opened-long-requires
-opened-long-requires c κs = let m = row-rule (c .before .before .before .before .before .before .before .before .before .args .row) (c .before .before .before .before .before .before .before .before .before .pre .2) .most in omega arith
+opened-long-requires c κs =
+    let s = c .before .before .before .before .before .before .before .before .before in
+    let m = row-rule (s .args .row) (s .pre .2) .most in
+    omega arith
 
 going-requires : tie.Need-going-requires
 going-requires c κs = search needs
@@ -57,10 +63,11 @@ same-length-2 c = search needs
 
 returns-2 : tie.Need-returns-2
 returns-2 c =
-    let s = c .before .before .before .before .before .before .before .before .before .before .before .before .before in
-    let p = s .args .at in
-    let o = s .args .state .now in
-    c .before .before .going .ensures ∙ ap (replied p o) (read-reply (s .args .values .now) (s .args .row) (c .before .before .before .before .before .before .before .before .value-of .ensures) (c .before .before .before .before .before .before .before .before .before .len-by .ensures) (read-long (s .args .row) (s .pre .3) (c .before .before .before .before .before .before .before .before .value-of .result) (c .before .before .before .before .before .before .before .before .before .len-by .result) (said (c .before .before .before .before .before .before .before .is-short .ensures) (c .before .before .before .before .before .before .if1 .left)) (c .before .before .before .opened-long .ensures) (c .before .before .before .before .before .opened .ensures)))
+    let v = c .before .before .before .before .before .before in
+    let l = v .before .before .before in
+    let s = l .before .before .before .before in
+    c .before .before .going .ensures
+    ∙ ap (replied (s .args .at) (s .args .state .now)) (read-reply (s .args .values .now) (s .args .row) (v .value-of .ensures) (l .len-by .ensures) (read-long (s .args .row) (s .pre .3) (v .value-of .result) (l .len-by .result) (said (v .before .before .is-short .ensures) (v .before .if1 .left)) (c .before .before .before .opened-long .ensures) (c .before .before .before .before .before .opened .ensures)))
 
 pub open-row-spec : {M : Type 1} → statement M
 open-row-spec =
@@ -68,13 +75,12 @@ open-row-spec =
     (tie.spec
     kind-of-requires
     len-by-requires
-    value-of-requires
     is-short-requires
-    slice-aggregate-opened-short
-    opened-short-requires
+    short-answer-requires
     ended-requires
     same-length
     returns
+    value-of-requires
     opened-requires
     opened-long-requires
     going-requires

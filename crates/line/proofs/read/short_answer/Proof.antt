@@ -1,0 +1,76 @@
+-- `line::read::short_answer`: from the values or from a copy, the value. Assumes nothing.
+use mathlib.Core.Path.{_≡_, ap, ap₂, _∙_}
+use mathlib.Core.List.{List}
+use mathlib.Core.Bool.{true}
+use Prim.Native.Nat.{ℕ, _+_, _-_}
+use native.Mathlib.Omega.{arith}
+use lib.ListN.{take, drop}
+use borrow.Author.Needs.{needs}
+use Rattle.order.specs.Talk.{opened}
+use Rattle.table.proofs.Table.{placed}
+use Rattle.sdo.specs.Eight.{answerOf}
+use Rattle.sdo.specs.declared.Key.{Key}
+use Rattle.line.proofs.Doors.{shown-whole, shown-part}
+use Rattle.line.proofs.read.short_answer.Statement.{statement}
+use Rattle.line.proofs.read.short_answer.Tie as tie
+
+place-of-requires : tie.Need-place-of-requires
+place-of-requires c κs = search needs
+
+add-opened-short : tie.Need-add-opened-short
+add-opened-short c =
+    let s = c .before .before .before in
+    omega (arith, placed (s .args .row) (s .pre .1 .0) (omega (arith, s .pre .2, c .before .if1 .taken)), c .place-of .ensures, s .pre .3)
+
+sub-opened-short : tie.Need-sub-opened-short
+sub-opened-short c = search needs
+
+part-opened-short-start : tie.Need-part-opened-short-start
+part-opened-short-start c = search needs
+
+part-opened-short-end : tie.Need-part-opened-short-end
+part-opened-short-end c =
+    let s = c .before .before .before in
+    omega (arith, placed (s .args .row) (s .pre .1 .0) (omega (arith, s .pre .2, c .before .if1 .taken)), c .place-of .ensures, s .pre .3, s .pre .0)
+
+opened-short-requires : tie.Need-opened-short-requires
+opened-short-requires c κs = search needs
+
+returns : tie.Need-returns
+returns c =
+    let s = c .before .before .before .before .before in
+    let p = c .before .before .place-of in
+    let n : p .result + s .args .len - p .result ≡ s .args .len = omega arith in
+    c .opened-short .ensures
+    ∙ ap (λ (l : List ℕ). answerOf (opened (s .args .k) (s .args .len) l true)) (shown-part (s .args .values .now) (s .args .row) (s .pre .1 .0) (s .pre .0) (s .pre .3) (omega (arith, s .pre .2, c .before .before .before .if1 .taken)) (ap₂ (λ (m a : ℕ). take m (drop a (s .args .values .now))) n (p .ensures)))
+
+value-of-requires : tie.Need-value-of-requires
+value-of-requires c κs = let s = c .before .before in (s .pre .0, s .pre .1 .0, ap (λ (q : Key). q .index) (s .pre .1 .1), s .pre .2, s .pre .3)
+
+slice-aggregate-opened-short : tie.Need-slice-aggregate-opened-short
+slice-aggregate-opened-short c = search needs
+
+opened-short-requires-2 : tie.Need-opened-short-requires-2
+opened-short-requires-2 c κs = search needs
+
+returns-2 : tie.Need-returns-2
+returns-2 c =
+    let s = c .before .before .before .before .before in
+    c .opened-short2 .ensures
+    ∙ ap (λ (l : List ℕ). answerOf (opened (s .args .k) (s .args .len) l true)) (shown-whole (s .args .values .now) (s .args .row) (s .pre .1 .0) (s .pre .0) (s .pre .3) (c .before .before .value-of .ensures))
+
+pub short-answer-spec : {M : Type 1} → statement M
+short-answer-spec =
+    tie.close
+    (tie.spec
+    place-of-requires
+    add-opened-short
+    sub-opened-short
+    part-opened-short-start
+    part-opened-short-end
+    opened-short-requires
+    returns
+    value-of-requires
+    slice-aggregate-opened-short
+    opened-short-requires-2
+    returns-2)
