@@ -1,4 +1,4 @@
-// The saved block of the NV entries: whether it is good, storing and loading it.
+// The saved block of the NV entries: storing and loading it.
 use table::columns;
 use wire::wide;
 ghost use mathlib.Core.Path.{_≡_};
@@ -332,24 +332,6 @@ fn store_by(
     }
     write_block(&fresh, block);
     true
-}
-
-// Is the block not faulty?
-pub fn is_good(block: &[u8]) -> bool
-    requires { ⌜ length (now block) ≡ 512 ⌝ }
-    ensures { λ r. ⌜ r ≡ loadable (now (block .entry)) ⌝ }
-{
-    let mut numbers = [0u32; columns::NV_ROWS];
-    0
-        < entries_taken(
-            &columns::NV_KIND,
-            &columns::NV_AT,
-            &columns::NV_CUT,
-            &columns::NV_LOW,
-            &columns::NV_HIGH,
-            block,
-            &mut numbers,
-        )
 }
 
 // Writes the block of the values, or nothing where an NV value is outside its limits.
