@@ -132,7 +132,7 @@ fn good_entries(
     block: &[u8],
     numbers: &mut [u32],
 ) -> usize
-    requires { ⌜ Cuts (now kinds) (now ats) (now cuts) × Limits (now lows) (now highs) × (length (now block) ≡ 512) × (length (now numbers) ≡ nv-count) ⌝ }
+    requires { ⌜ Fields (now kinds) (now ats) × Cuts (now cuts) × Limits (now lows) (now highs) × (length (now block) ≡ 512) × (length (now numbers) ≡ nv-count) ⌝ }
     ensures { λ r. ⌜ (r ≡ saved-front (bits (now (block .entry))) 8 nv) × Front (bits (now (block .entry))) (now (numbers .exit)) r ⌝ }
 {
     let mut i = 0;
@@ -248,7 +248,7 @@ fn entries_taken(
     block: &[u8],
     numbers: &mut [u32],
 ) -> usize
-    requires { ⌜ Cuts (now kinds) (now ats) (now cuts) × Limits (now lows) (now highs) × (length (now block) ≡ 512) × (length (now numbers) ≡ nv-count) ⌝ }
+    requires { ⌜ Fields (now kinds) (now ats) × Cuts (now cuts) × Limits (now lows) (now highs) × (length (now block) ≡ 512) × (length (now numbers) ≡ nv-count) ⌝ }
     ensures { λ r. ⌜ (r ≡ cond (loadable (now (block .entry))) nv-count 0) × Front (bits (now (block .entry))) (now (numbers .exit)) r ⌝ }
 {
     if bits::get_field(block, 0, 4) != LAYOUT {
@@ -277,7 +277,7 @@ fn load_by(
     block: &[u8],
     values: &mut [u8],
 ) -> bool
-    requires { ⌜ Fields (now kinds) (now ats) × Cuts (now kinds) (now ats) (now cuts) × Places (now places) × Limits (now lows) (now highs) × (length (now values) ≡ 1024) × (length (now block) ≡ 512) ⌝ }
+    requires { ⌜ Fields (now kinds) (now ats) × Cuts (now cuts) × Places (now places) × Limits (now lows) (now highs) × (length (now values) ≡ 1024) × (length (now block) ≡ 512) ⌝ }
     ensures { λ r. ⌜ (r ≡ loadable (now (block .entry))) × (now (values .exit) ≡ loaded (now (block .entry)) (now (values .entry))) ⌝ }
 {
     let mut numbers = [0u32; columns::NV_ROWS];
