@@ -1,4 +1,5 @@
 // The saved block of the NV entries: storing and loading it.
+use entry::limits;
 use table::columns;
 use wire::wide;
 ghost use mathlib.Core.Path.{_≡_};
@@ -9,7 +10,6 @@ ghost use lib.ListN.{length, take, drop, replicate};
 ghost use Rattle.bits.specs.Bits.{bits, msb, field};
 ghost use Rattle.table.specs.Row.{REAL};
 ghost use Rattle.table.specs.Rows.{nv-count, nv-end};
-ghost use Rattle.table.specs.Rule.{rank};
 ghost use Rattle.wire.specs.Little.{little};
 ghost use Rattle.wire.specs.Splice.{splice};
 ghost use Rattle.block.specs.Block.{LAYOUT, BAG552, width as width-by, entry-bits, entry-bytes, saved, load-rows, all-zero};
@@ -55,19 +55,6 @@ fn put_number(values: &mut [u8], place: usize, kind: u8, v: u32)
         return;
     }
     wire::put_byte(values, place, v as u8);
-}
-
-// The place of a number in the order of its type.
-fn rank_of(kind: u8, v: u32) -> u32
-    ensures { λ r. ⌜ r ≡ rank kind v ⌝ }
-{
-    if kind != 5 {
-        return v;
-    }
-    if v < 2147483648 {
-        return 2147483648 + v;
-    }
-    4294967295 - v + 1
 }
 
 fn is_between(low: u32, high: u32, x: u32) -> bool
@@ -141,7 +128,7 @@ fn good_entries(
         let at = wide::pair_to_usize(ats[i]);
         let cut = wide::to_usize(cuts[i]);
         let v = bits::cut_field(block, at, cut);
-        let x = rank_of(kind, v);
+        let x = limits::rank_of(kind, v);
         if !is_between(lows[i], highs[i], x) {
             return i;
         }
@@ -194,7 +181,7 @@ fn save_entries(
         let kind = kinds[i];
         let place = wide::pair_to_usize(places[i]);
         let v = held_number(values, place, kind);
-        let x = rank_of(kind, v);
+        let x = limits::rank_of(kind, v);
         if !is_between(lows[i], highs[i], x) {
             return i;
         }
