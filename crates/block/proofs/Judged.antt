@@ -3,10 +3,10 @@ use mathlib.Core.Bool.{Bool, true, false, _&&_}
 use mathlib.Core.List.{List}
 use mathlib.Core.Logic.{⊎-elim}
 use mathlib.Core.Path.{_≡_, refl, sym, ap, _∙_}
-use Prim.Native.Nat.{ℕ, _+_, _-_, _≤_, _<_}
+use Prim.Native.Nat.{ℕ, _≤_, _<_}
 use native.Mathlib.Omega.{arith}
 use lib.Dec.{eqb, leb}
-use borrow.Author.Tests.{eq-eqb, ne-eqb, le-leb, lt-leb, le-ltb, lt-ltb}
+use borrow.Author.Tests.{eq-eqb, ne-eqb, le-leb, lt-leb}
 use Rattle.bits.proofs.Parts.{field-fits}
 use Rattle.bits.specs.Bits.{bits, field, Bytes}
 use Rattle.block.proofs.Entries.{number-or-string, no-code, number-narrow, within-string, width-some, width-most}
@@ -22,7 +22,7 @@ use Rattle.entry.specs.declared.limits.Verdict.the-variants.{Within}
 use Rattle.table.proofs.Rules.{RowRule}
 use Rattle.table.proofs.Walks.{lt-or-ge}
 use Rattle.table.specs.Row.{Row, REAL}
-use Rattle.table.specs.Rule.{pick, rank, real-rank}
+use Rattle.table.specs.Rule.{pick, rank}
 use Rattle.wire.specs.Little.{number}
 
 module _ (r : Row) (u : RowRule r) (v : ℕ) (w : v < 4294967296) (h : r .kind ≤ REAL) where
@@ -106,18 +106,6 @@ module _ (r : Row) (k : Kept r) where
       (λ h. rw (lt-leb (r .kind) REAL h) (string-judged h (field (bits block) at 32) _ (f 32 (omega arith))))
 
 -- ---- the tests of the code
-
-pub rank-other : (kind v : ℕ) → (kind ≡ REAL → ⊥) → v ≡ rank kind v
-unfolding rank pick
-rank-other kind v d = sym (rw (ne-eqb kind REAL d))
-
-pub rank-plus : (kind v : ℕ) → kind ≡ REAL → v < 2147483648 → 2147483648 + v ≡ rank kind v
-unfolding rank real-rank pick
-rank-plus kind v e h = sym (rw (eq-eqb kind REAL e, lt-ltb v 2147483648 h))
-
-pub rank-minus : (kind v x : ℕ) → kind ≡ REAL → 2147483648 ≤ v → x ≡ 4294967296 - v → x ≡ rank kind v
-unfolding rank real-rank pick
-rank-minus kind v x e h f = f ∙ sym (rw (eq-eqb kind REAL e, le-ltb v 2147483648 h))
 
 module _ (low high x : ℕ) where
   pub between-low : x < low → false ≡ between low high x

@@ -15,10 +15,10 @@ use Rattle.bits.proofs.Parts.{field-mid}
 use Rattle.bits.specs.Bits.{msb, bits, num, field, Small, Bytes}
 use Rattle.block.proofs.Entries.{length-entry, length-bytes, entry-back, back-entry, number-back, bits-number, number-or-string, within-string}
 use Rattle.block.proofs.Kept.{Kept}
-use Rattle.block.proofs.Walking.{and-true, fits, Keeps, part-long, length-saved}
+use Rattle.block.proofs.Walking.{fits, Keeps, part-long, length-saved}
 use Rattle.block.proofs.Zeros.{zeros, zeros-are}
 use Rattle.block.specs.Block.{LAYOUT, row-width, part, entry-bits, entry-bytes, within, widths, saved, load-rows, values-good, rows-good, all-zero, block-of, good}
-use Rattle.table.proofs.Walks.{lt-or-ge}
+use Rattle.table.proofs.Walks.{lt-or-ge, and-true}
 use Rattle.table.specs.Row.{Row, no-row}
 use Rattle.wire.proofs.SpliceLaws.{length-splice, part-same, part-apart, splice-own}
 use Rattle.wire.specs.Little.{fromLittle, number}

@@ -77,6 +77,12 @@ pub limits-long : (lows highs : List ℕ) → Limits lows highs → (length lows
 limits-long lows highs lent =
     (column-long lowest lows (lent .lows-are), column-long highest highs (lent .highs-are))
 
+pub cuts-long : (cuts : List ℕ) → Cuts cuts → length cuts ≡ nv-count
+cuts-long cuts are = column-long cut cuts are
+
+pub cut-at : (cuts : List ℕ) → Cuts cuts → (i : ℕ) → i < nv-count → getD cuts i 0 ≡ cut (at-nv i)
+cut-at cuts are i h = column-at cut cuts are i h
+
 pub place-at : (places : List ℕ) → Places places → (i : ℕ) → i < nv-count → getD places i 0 ≡ at-nv i .place
 place-at places are i h = column-at (λ (r : Row). r .place) places are i h
 
@@ -96,43 +102,28 @@ pub record Here (i kind at width : ℕ) : Type 0 where
   pub at-is : at ≡ 8 + widths (take i nv)
   pub width-is : width ≡ row-width (at-nv i)
 
-module _ {kinds ats : List ℕ} (lent : Fields kinds ats) (i : ℕ) (h : i < nv-count) {at next : ℕ} (e : at ≡ getD ats i 0) (f : next ≡ getD ats (i + 1) 0) where
-  begins : at ≡ 8 + widths (take i nv)
-  begins = e ∙ ap (λ (x : List ℕ). getD x i 0) (lent .ats-are) ∙ start-here nv i (omega (arith, nv-length)) 8
-
-  ends : next ≡ at + row-width (at-nv i)
-  ends =
-      f ∙ ap (λ (x : List ℕ). getD x (i + 1) 0) (lent .ats-are)
-      ∙ omega (arith, start-next nv i (omega (arith, nv-length)) 8, widths-next nv i (omega (arith, nv-length)), begins)
-
-  pub here : Here i (getD kinds i 0) at (next - at)
-  here =
+module _ {kinds ats : List ℕ} (lent : Fields kinds ats) (i : ℕ) (h : i < nv-count) {at : ℕ} (e : at ≡ getD ats i 0) where
+  pub seen : Here i (getD kinds i 0) at (row-width (at-nv i))
+  seen =
       record {
         there = h;
         kind-is = column-at (λ (r : Row). r .kind) kinds (lent .kinds-are) i h;
-        at-is = begins;
-        width-is = omega (arith, ends);
+        at-is = e ∙ ap (λ (x : List ℕ). getD x i 0) (lent .ats-are) ∙ start-here nv i (omega (arith, nv-length)) 8;
+        width-is = refl;
       }
 
-  pub rising : at ≤ next
-  rising = omega (arith, ends)
+  -- its width is the way to the next one
+  module _ {next : ℕ} (f : next ≡ getD ats (i + 1) 0) where
+    ends : next ≡ at + row-width (at-nv i)
+    ends =
+        f ∙ ap (λ (x : List ℕ). getD x (i + 1) 0) (lent .ats-are)
+        ∙ omega (arith, start-next nv i (omega (arith, nv-length)) 8, widths-next nv i (omega (arith, nv-length)), seen .at-is)
 
--- the same by the bits that are looked at
-pub seen : {kinds ats cuts : List ℕ} → Cuts kinds ats cuts → (i : ℕ) → i < nv-count → {at : ℕ} → at ≡ getD ats i 0 → Here i (getD kinds i 0) at (row-width (at-nv i))
-seen {kinds} {ats} {cuts} lent i h e =
-    record {
-      there = h;
-      kind-is = column-at (λ (r : Row). r .kind) kinds (lent .kinds-are) i h;
-      at-is = e ∙ ap (λ (x : List ℕ). getD x i 0) (lent .ats-are) ∙ start-here nv i (omega (arith, nv-length)) 8;
-      width-is = refl;
-    }
+    pub here : Here i (getD kinds i 0) at (next - at)
+    here = record { there = h; kind-is = seen .kind-is; at-is = seen .at-is; width-is = omega (arith, ends) }
 
-pub cut-at : {kinds ats cuts : List ℕ} → Cuts kinds ats cuts → (i : ℕ) → i < nv-count → getD cuts i 0 ≡ cut (at-nv i)
-cut-at {kinds} {ats} {cuts} lent i h = column-at cut cuts (lent .cuts-are) i h
-
-pub cuts-long : {kinds ats cuts : List ℕ} → Cuts kinds ats cuts → (length kinds ≡ nv-count) × (length ats ≡ nv-count + 1) × (length cuts ≡ nv-count)
-cuts-long {kinds} {ats} {cuts} lent =
-    (column-long (λ (r : Row). r .kind) kinds (lent .kinds-are), ap length (lent .ats-are) ∙ length-starts 8 nv ∙ ap suc nv-length, column-long cut cuts (lent .cuts-are))
+    pub rising : at ≤ next
+    rising = omega (arith, ends)
 
 module _ {i kind at width' : ℕ} (g : Here i kind at width') where
   inside : i < length nv

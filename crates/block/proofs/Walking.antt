@@ -25,10 +25,6 @@ use Rattle.wire.proofs.LittleLaws.{number-lt}
 use Rattle.wire.specs.Little.{fromLittle, number}
 use Rattle.wire.specs.Splice.{splice}
 
-pub and-true : (a b : Bool) → (a && b) ≡ true → (a ≡ true) × (b ≡ true)
-and-true true b e = (refl, e)
-and-true false b e = absurd (let z : _≡_ {A = ℕ} 0 1 = cc in omega arith)
-
 -- ---- the next row is an NV row or not
 
 pub one-or-not : (n : ℕ) → (n ≡ 1) ⊎ (n ≡ 1 → ⊥)

@@ -1,4 +1,4 @@
--- What the calls of `load`, `store` and `is_good` say, put together. Over plain variables. Assumes nothing.
+-- What the calls of `load` and `store` say, put together. Over plain variables. Assumes nothing.
 use mathlib.Core.Bool.{Bool, true, false, cond, _&&_}
 use mathlib.Core.List.{List, _∷_, _++_, append-assoc}
 use mathlib.Core.Path.{_≡_, refl, sym, ap, _∙_}
@@ -189,7 +189,7 @@ some-of true = refl
 some-of false = refl
 
 -- a block is good where a load takes something
-pub some-taken : (block : List ℕ) {n : ℕ} → n ≡ cond (loadable block) nv-count 0 → ltb 0 n ≡ loadable block
+some-taken : (block : List ℕ) {n : ℕ} → n ≡ cond (loadable block) nv-count 0 → ltb 0 n ≡ loadable block
 some-taken block e = ap (ltb 0) e ∙ some-of (loadable block)
 
 rows-taken : (b : Bool) (bs values : List ℕ) → load-rows bs 8 (take (cond b nv-count 0) nv) values ≡ cond b (load-rows bs 8 nv values) values

@@ -12,8 +12,8 @@ use borrow.Author.Tests.{eq-eqb, ne-eqb, eqb-true}
 use Rattle.bits.proofs.Copying.{bits-drop}
 use Rattle.bits.proofs.Numbers.{num-msb}
 use Rattle.bits.specs.Bits.{msb, bits, num-from, num, field, Bytes}
-use Rattle.block.proofs.Walking.{and-true}
 use Rattle.block.specs.Block.{all-zero}
+use Rattle.table.proofs.Walks.{and-true}
 use Rattle.wire.specs.Splice.{splice}
 
 and-assoc : (a b c : Bool) → ((a && b) && c) ≡ (a && (b && c))

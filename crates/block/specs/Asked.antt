@@ -28,10 +28,8 @@ pub record Fields (kinds ats : List ℕ) : Type 0 where
 unfoldable pub cut : Row → ℕ
 cut r = cond (leb (r .kind) REAL) (row-width r) 32
 
-pub record Cuts (kinds ats cuts : List ℕ) : Type 0 where
-  pub kinds-are : kinds ≡ map (λ (r : Row). r .kind) nv
-  pub ats-are : ats ≡ starts 8 nv
-  pub cuts-are : cuts ≡ map cut nv
+abbrev pub Cuts : List ℕ → Type 0
+Cuts cuts = cuts ≡ map cut nv
 
 abbrev pub Places : List ℕ → Type 0
 Places places = places ≡ map (λ (r : Row). r .place) nv

@@ -1,4 +1,5 @@
-// The saved block of the NV entries: whether it is good, storing and loading it.
+// The saved block of the NV entries: storing and loading it.
+use entry::limits;
 use table::columns;
 use wire::wide;
 ghost use mathlib.Core.Path.{_≡_};
@@ -9,7 +10,6 @@ ghost use lib.ListN.{length, take, drop, replicate};
 ghost use Rattle.bits.specs.Bits.{bits, msb, field};
 ghost use Rattle.table.specs.Row.{REAL};
 ghost use Rattle.table.specs.Rows.{nv-count, nv-end};
-ghost use Rattle.table.specs.Rule.{rank};
 ghost use Rattle.wire.specs.Little.{little};
 ghost use Rattle.wire.specs.Splice.{splice};
 ghost use Rattle.block.specs.Block.{LAYOUT, BAG552, width as width-by, entry-bits, entry-bytes, saved, load-rows, all-zero};
@@ -55,19 +55,6 @@ fn put_number(values: &mut [u8], place: usize, kind: u8, v: u32)
         return;
     }
     wire::put_byte(values, place, v as u8);
-}
-
-// The place of a number in the order of its type.
-fn rank_of(kind: u8, v: u32) -> u32
-    ensures { λ r. ⌜ r ≡ rank kind v ⌝ }
-{
-    if kind != 5 {
-        return v;
-    }
-    if v < 2147483648 {
-        return 2147483648 + v;
-    }
-    4294967295 - v + 1
 }
 
 fn is_between(low: u32, high: u32, x: u32) -> bool
@@ -132,7 +119,7 @@ fn good_entries(
     block: &[u8],
     numbers: &mut [u32],
 ) -> usize
-    requires { ⌜ Cuts (now kinds) (now ats) (now cuts) × Limits (now lows) (now highs) × (length (now block) ≡ 512) × (length (now numbers) ≡ nv-count) ⌝ }
+    requires { ⌜ Fields (now kinds) (now ats) × Cuts (now cuts) × Limits (now lows) (now highs) × (length (now block) ≡ 512) × (length (now numbers) ≡ nv-count) ⌝ }
     ensures { λ r. ⌜ (r ≡ saved-front (bits (now (block .entry))) 8 nv) × Front (bits (now (block .entry))) (now (numbers .exit)) r ⌝ }
 {
     let mut i = 0;
@@ -141,7 +128,7 @@ fn good_entries(
         let at = wide::pair_to_usize(ats[i]);
         let cut = wide::to_usize(cuts[i]);
         let v = bits::cut_field(block, at, cut);
-        let x = rank_of(kind, v);
+        let x = limits::rank_of(kind, v);
         if !is_between(lows[i], highs[i], x) {
             return i;
         }
@@ -194,7 +181,7 @@ fn save_entries(
         let kind = kinds[i];
         let place = wide::pair_to_usize(places[i]);
         let v = held_number(values, place, kind);
-        let x = rank_of(kind, v);
+        let x = limits::rank_of(kind, v);
         if !is_between(lows[i], highs[i], x) {
             return i;
         }
@@ -248,7 +235,7 @@ fn entries_taken(
     block: &[u8],
     numbers: &mut [u32],
 ) -> usize
-    requires { ⌜ Cuts (now kinds) (now ats) (now cuts) × Limits (now lows) (now highs) × (length (now block) ≡ 512) × (length (now numbers) ≡ nv-count) ⌝ }
+    requires { ⌜ Fields (now kinds) (now ats) × Cuts (now cuts) × Limits (now lows) (now highs) × (length (now block) ≡ 512) × (length (now numbers) ≡ nv-count) ⌝ }
     ensures { λ r. ⌜ (r ≡ cond (loadable (now (block .entry))) nv-count 0) × Front (bits (now (block .entry))) (now (numbers .exit)) r ⌝ }
 {
     if bits::get_field(block, 0, 4) != LAYOUT {
@@ -277,7 +264,7 @@ fn load_by(
     block: &[u8],
     values: &mut [u8],
 ) -> bool
-    requires { ⌜ Fields (now kinds) (now ats) × Cuts (now kinds) (now ats) (now cuts) × Places (now places) × Limits (now lows) (now highs) × (length (now values) ≡ 1024) × (length (now block) ≡ 512) ⌝ }
+    requires { ⌜ Fields (now kinds) (now ats) × Cuts (now cuts) × Places (now places) × Limits (now lows) (now highs) × (length (now values) ≡ 1024) × (length (now block) ≡ 512) ⌝ }
     ensures { λ r. ⌜ (r ≡ loadable (now (block .entry))) × (now (values .exit) ≡ loaded (now (block .entry)) (now (values .entry))) ⌝ }
 {
     let mut numbers = [0u32; columns::NV_ROWS];
@@ -332,24 +319,6 @@ fn store_by(
     }
     write_block(&fresh, block);
     true
-}
-
-// Is the block not faulty?
-pub fn is_good(block: &[u8]) -> bool
-    requires { ⌜ length (now block) ≡ 512 ⌝ }
-    ensures { λ r. ⌜ r ≡ loadable (now (block .entry)) ⌝ }
-{
-    let mut numbers = [0u32; columns::NV_ROWS];
-    0
-        < entries_taken(
-            &columns::NV_KIND,
-            &columns::NV_AT,
-            &columns::NV_CUT,
-            &columns::NV_LOW,
-            &columns::NV_HIGH,
-            block,
-            &mut numbers,
-        )
 }
 
 // Writes the block of the values, or nothing where an NV value is outside its limits.

@@ -3,7 +3,7 @@ use Prim.Native.Nat.{ℕ, zero, suc, _+_, _≤_, _<_}
 use native.Mathlib.Omega.{arith}
 use mathlib.Core.Path.{_≡_, refl, sym, ap, subst, _∙_}
 use mathlib.Core.Logic.{_⊎_, inl, inr}
-use mathlib.Core.Bool.{Bool, true, false, cond, _&&_}
+use mathlib.Core.Bool.{Bool, true, false, cond}
 use mathlib.Core.List.{List, [], _∷_, map}
 use mathlib.Core.Option.{Option, none, some, Option·map}
 use lib.Dec.{eqb}
@@ -11,7 +11,7 @@ use lib.ListN.{length}
 use borrow.Author.Tests.{eqb-true, eqb-false, eq-eqb, le-leb}
 use Rattle.wire.specs.Splice.{splice}
 use Rattle.wire.proofs.SpliceLaws.{length-splice, part-length, part-same}
-use Rattle.table.proofs.Walks.{lt-or-ge}
+use Rattle.table.proofs.Walks.{lt-or-ge, and-true}
 use Rattle.trip.specs.declared.Trips.{Trips}
 use Rattle.trip.specs.Trip.{all-off}
 use Rattle.sample.specs.Sample.{trips-after, values-after}
@@ -362,10 +362,6 @@ told (c ∷ cs) a ok =
     }
 
 -- ---- power-up
-
-and-true : (a b : Bool) → (a && b) ≡ true → (a ≡ true) × (b ≡ true)
-and-true true b e = (refl, e)
-and-true false b e = let z : _≡_ {A = ℕ} 0 1 = cc in absurd (omega arith)
 
 module _ (v b s : List ℕ) where
   sized-lengths : sized v b s ≡ true → (length b ≡ 512) × (length s ≡ 256)

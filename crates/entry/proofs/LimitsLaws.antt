@@ -2,7 +2,7 @@
 use mathlib.Core.Path.{_≡_, refl, sym, _∙_}
 use mathlib.Core.Bool.{Bool, true, false}
 use mathlib.Core.Logic.{⊎-elim}
-use Prim.Native.Nat.{ℕ, _<_, _≤_}
+use Prim.Native.Nat.{ℕ, _+_, _-_, _<_, _≤_}
 use native.Mathlib.Nat.{eq-or-lt-of-le}
 use native.Mathlib.Omega.{arith}
 use lib.Dec.{ltb}
@@ -26,8 +26,8 @@ module _ (low high v : ℕ) (p : Patterns low high v) where
 
   -- a REAL that is a number is judged by its rank
   pub by-rank : (a b c : ℕ) → magnitude v ≤ 2139095040
-      → a ≡ real-rank low → b ≡ real-rank high → c ≡ real-rank v → whole-verdict a b c ≡ real-verdict low high v
-  unfolding whole-verdict real-verdict
+      → a ≡ rank REAL low → b ≡ rank REAL high → c ≡ rank REAL v → whole-verdict a b c ≡ real-verdict low high v
+  unfolding whole-verdict real-verdict rank pick
   by-rank a b c g ea eb ec =
       let w : v < 4294967296 = p .short in
       let l = p .lowest in
@@ -94,3 +94,17 @@ module _ (k low high v : ℕ) (h : k ≤ REAL) (p : k ≡ REAL → Patterns low 
 
   pub within-rank : kind-verdict k low high v ≡ Within → (rank k low ≤ rank k v) × (rank k v ≤ rank k high)
   within-rank e = whole-within (rank k low) (rank k high) (rank k v) (sym (verdict-by-rank k low high v h p n) ∙ e)
+
+-- ---- ranks, by the tests of the code
+
+pub rank-other : (kind v : ℕ) → (kind ≡ REAL → ⊥) → v ≡ rank kind v
+unfolding rank pick
+rank-other kind v d = sym (rw (ne-eqb kind REAL d))
+
+pub rank-plus : (kind v : ℕ) → kind ≡ REAL → v < 2147483648 → 2147483648 + v ≡ rank kind v
+unfolding rank real-rank pick
+rank-plus kind v e h = sym (rw (eq-eqb kind REAL e, lt-ltb v 2147483648 h))
+
+pub rank-minus : (kind v x : ℕ) → kind ≡ REAL → 2147483648 ≤ v → x ≡ 4294967296 - v → x ≡ rank kind v
+unfolding rank real-rank pick
+rank-minus kind v x e h f = f ∙ sym (rw (eq-eqb kind REAL e, le-ltb v 2147483648 h))

@@ -40,14 +40,6 @@ fn judge_kind(kind: u8, row: usize, v: u64) -> Verdict
     limits::judge_number(kind, both.low, both.high, v)
 }
 
-// A number, as one of the row's.
-pub fn judge_row_number(row: usize, v: u64) -> Verdict
-    requires { ⌜ (row < row-count) × (at-row row .kind ≡ REAL → v < 4294967296) ⌝ }
-    ensures { λ r. ⌜ r ≡ number-verdict (at-row row) v ⌝ }
-{
-    judge_kind(table::field::kind_of(row), row, v)
-}
-
 // A value of the row's type and length: only the bytes of a number are looked at.
 pub fn judge(row: usize, kind: u8, value: &[u8]) -> Verdict
     requires { ⌜ (row < row-count) × (kind ≡ at-row row .kind) × (length (now value) ≡ at-row row .len) ⌝ }

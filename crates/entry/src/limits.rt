@@ -1,9 +1,9 @@
 // A number against the limits of its row.
+use wire::wide;
 ghost use mathlib.Core.Path.{_≡_};
-ghost use Prim.Native.Nat.{_<_};
 ghost use Rattle.entry.specs.Limits.{Patterns, whole-verdict, real-verdict, kind-verdict, verdict-code};
 ghost use Rattle.table.specs.Row.{REAL};
-ghost use Rattle.table.specs.Rule.{real-rank};
+ghost use Rattle.table.specs.Rule.{rank};
 
 pub enum Verdict {
     Within,
@@ -24,15 +24,17 @@ pub fn code_of(verdict: Verdict) -> u32
     }
 }
 
-// The place of a pattern in the order of the floats.
-fn rank_of(pattern: u64) -> u64
-    requires { ⌜ pattern < 4294967296 ⌝ }
-    ensures { λ r. ⌜ r ≡ real-rank pattern ⌝ }
+// The place of a number in the order of its type, a REAL's by its bit pattern.
+pub fn rank_of(kind: u8, v: u32) -> u32
+    ensures { λ r. ⌜ r ≡ rank kind v ⌝ }
 {
-    if pattern < 2147483648 {
-        return 2147483648 + pattern;
+    if kind != 5 {
+        return v;
     }
-    4294967296 - pattern
+    if v < 2147483648 {
+        return 2147483648 + v;
+    }
+    4294967295 - v + 1
 }
 
 fn judge_whole(low: u64, high: u64, v: u64) -> Verdict
@@ -48,14 +50,18 @@ fn judge_whole(low: u64, high: u64, v: u64) -> Verdict
 }
 
 // A REAL is judged on its bit pattern: above the pattern of infinity, without the sign, stand the NaNs.
-fn judge_real(low: u64, high: u64, v: u64) -> Verdict
+fn judge_real(low: u32, high: u32, v: u32) -> Verdict
     requires { ⌜ Patterns low high v ⌝ }
     ensures { λ r. ⌜ r ≡ real-verdict low high v ⌝ }
 {
     if 2139095040 < v % 2147483648 {
         return Verdict::NotANumber;
     }
-    judge_whole(rank_of(low), rank_of(high), rank_of(v))
+    judge_whole(
+        wide::word_to_u64(rank_of(5, low)),
+        wide::word_to_u64(rank_of(5, high)),
+        wide::word_to_u64(rank_of(5, v)),
+    )
 }
 
 // Any number of a row against that row's kind and limits.
@@ -65,7 +71,7 @@ pub fn judge_number(kind: u8, low: u64, high: u64, v: u64) -> Verdict
 {
     match kind {
         0..=4 => judge_whole(low, high, v),
-        5 => judge_real(low, high, v),
+        5 => judge_real(low as u32, high as u32, v as u32),
         _ => Verdict::Within,
     }
 }

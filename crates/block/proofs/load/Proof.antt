@@ -30,7 +30,7 @@ load-by-requires : tie.Need-load-by-requires
 unfolding rows nv-rows width starts cut rank real-rank pick lowest highest
 load-by-requires c κs =
     let b = c .before .before .before .before .before .before .before .before .before in
-    (record { kinds-are = refl; ats-are = refl }, record { kinds-are = refl; ats-are = refl; cuts-are = refl }, refl, record { lows-are = refl; highs-are = refl }, b .pre .0, b .pre .1)
+    (record { kinds-are = refl; ats-are = refl }, refl, refl, record { lows-are = refl; highs-are = refl }, b .pre .0, b .pre .1)
 
 same-length : tie.Need-same-length
 same-length c = search needs

@@ -1,23 +1,27 @@
--- `rank_of` is `real-rank`: the test decides which half.
-use borrow.Author.Tests.{lt-ltb, le-ltb}
+-- `rank_of` is `rank`.
+use native.Mathlib.Omega.{arith}
 use borrow.Author.Needs.{needs}
-use Rattle.table.specs.Rule.{pick, real-rank}
+use Rattle.entry.proofs.LimitsLaws.{rank-other, rank-plus, rank-minus}
 use Rattle.entry.proofs.limits.rank_of.Statement.{statement}
 use Rattle.entry.proofs.limits.rank_of.Tie as tie
+
+returns : tie.Need-returns
+returns c = rank-other _ _ (c .if1 .taken)
 
 add-result : tie.Need-add-result
 add-result c = search needs
 
-returns : tie.Need-returns
-unfolding real-rank pick
-returns c = simp (lt-ltb _ _ (c .if1 .taken))
+returns-2 : tie.Need-returns-2
+returns-2 c = rank-plus _ _ (c .before .if1 .left) (c .if2 .taken)
 
 sub-result : tie.Need-sub-result
 sub-result c = search needs
 
-returns-2 : tie.Need-returns-2
-unfolding real-rank pick
-returns-2 c = simp (le-ltb _ _ (c .if1 .left))
+add-result-2 : tie.Need-add-result-2
+add-result-2 c = search needs
+
+returns-3 : tie.Need-returns-3
+returns-3 c = rank-minus _ _ _ (c .before .if1 .left) (omega arith) (omega arith)
 
 pub rank-of-spec : {M : Type 1} → statement M
-rank-of-spec = tie.close (tie.spec add-result returns sub-result returns-2)
+rank-of-spec = tie.close (tie.spec returns add-result returns-2 sub-result add-result-2 returns-3)
