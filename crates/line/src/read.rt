@@ -30,11 +30,16 @@ fn give_part(state: &mut [u8], at: usize, t: Transfer) -> [u8; 8]
     let held = t.held;
     let len = t.len;
     let place = t.place;
-    let eight = answer::part_given(&held, len, place, t.toggle);
+    let toggle = t.toggle;
     if len <= place + 7 {
-        return reply::ended(state, at, eight);
+        return reply::ended(state, at, answer::part_last(&held, len, place, toggle));
     }
-    reply::going(state, at, record::turned(t), eight)
+    reply::going(
+        state,
+        at,
+        record::turned(t),
+        answer::part_more(&held, place, toggle),
+    )
 }
 
 pub fn next_part(state: &mut [u8], at: usize, toggle: bool) -> [u8; 8]

@@ -54,24 +54,23 @@ pad7 (a ∷ b ∷ c ∷ d ∷ e ∷ []) = refl
 pad7 (a ∷ b ∷ c ∷ d ∷ e ∷ f ∷ []) = refl
 pad7 (a ∷ b ∷ c ∷ d ∷ e ∷ f ∷ g ∷ l) = refl
 
--- eight bytes, taken one by one from the held ones, are the part that the definition lays out
-pub part-laid : (held : List ℕ) (len p : ℕ) (t : Bool) (h b0 b1 b2 b3 b4 b5 b6 : ℕ) → len ≤ length held
-    → h ≡ 16 * one t + 2 * (7 - min 7 (len - p)) + one (leb len (p + 7))
-    → b0 ≡ getD (take len held) p 0
-    → b1 ≡ getD (take len held) (p + 1) 0
-    → b2 ≡ getD (take len held) (p + 2) 0
-    → b3 ≡ getD (take len held) (p + 3) 0
-    → b4 ≡ getD (take len held) (p + 4) 0
-    → b5 ≡ getD (take len held) (p + 5) 0
-    → b6 ≡ getD (take len held) (p + 6) 0
-    → (h ∷ b0 ∷ b1 ∷ b2 ∷ b3 ∷ b4 ∷ b5 ∷ b6 ∷ []) ≡ answerOf (partGiven t (take 7 (drop p (take len held))) (leb len (p + 7)))
+-- eight bytes, taken one by one from a value, are the part that the definition lays out
+pub part-laid : (l : List ℕ) (p : ℕ) (t last : Bool) (h b0 b1 b2 b3 b4 b5 b6 : ℕ)
+    → h ≡ 16 * one t + 2 * (7 - min 7 (length l - p)) + one last
+    → b0 ≡ getD l p 0
+    → b1 ≡ getD l (p + 1) 0
+    → b2 ≡ getD l (p + 2) 0
+    → b3 ≡ getD l (p + 3) 0
+    → b4 ≡ getD l (p + 4) 0
+    → b5 ≡ getD l (p + 5) 0
+    → b6 ≡ getD l (p + 6) 0
+    → (h ∷ b0 ∷ b1 ∷ b2 ∷ b3 ∷ b4 ∷ b5 ∷ b6 ∷ []) ≡ answerOf (partGiven t (take 7 (drop p l)) last)
 unfolding answerOf
-part-laid held len p t h b0 b1 b2 b3 b4 b5 b6 fits eh e0 e1 e2 e3 e4 e5 e6 =
-    let l : List ℕ = drop p (take len held) in
-    let n : length (take 7 l) ≡ min 7 (len - p) = simp (length-take, length-drop) (omega arith) in
-    let z : getD l 0 0 ≡ getD (take len held) p 0 = getD-drop p (take len held) 0 0 ∙ ap (λ (i : ℕ). getD (take len held) i 0) (add-zero p) in
-    ap₂ _∷_ (eh ∙ ap (λ (m : ℕ). 16 * one t + 2 * (7 - m) + one (leb len (p + 7))) (sym n))
-    (sym (pad7 l ∙ cc (z, e0, e1, getD-drop p (take len held) 1 0, e2, getD-drop p (take len held) 2 0, e3, getD-drop p (take len held) 3 0, e4, getD-drop p (take len held) 4 0, e5, getD-drop p (take len held) 5 0, e6, getD-drop p (take len held) 6 0)))
+part-laid l p t last h b0 b1 b2 b3 b4 b5 b6 eh e0 e1 e2 e3 e4 e5 e6 =
+    let n : length (take 7 (drop p l)) ≡ min 7 (length l - p) = simp (length-take, length-drop) in
+    let z : getD (drop p l) 0 0 ≡ getD l p 0 = getD-drop p l 0 0 ∙ ap (λ (i : ℕ). getD l i 0) (add-zero p) in
+    ap₂ _∷_ (eh ∙ ap (λ (m : ℕ). 16 * one t + 2 * (7 - m) + one last) (sym n))
+    (sym (pad7 (drop p l) ∙ cc (z, e0, e1, getD-drop p l 1 0, e2, getD-drop p l 2 0, e3, getD-drop p l 3 0, e4, getD-drop p l 4 0, e5, getD-drop p l 5 0, e6, getD-drop p l 6 0)))
 
 -- a small number in four bytes
 pub little-small : (n : ℕ) → n < 256 → little 4 n ≡ n ∷ 0 ∷ 0 ∷ 0 ∷ []

@@ -3,7 +3,7 @@ use Prim.Native.Nat.{ℕ, zero, suc, _+_, _-_, _/_, _%_, _≤_, _<_}
 use native.Mathlib.Omega.{arith}
 use mathlib.Core.Path.{_≡_, refl, ap, subst}
 use mathlib.Core.Bool.{Bool, true, false, Bool·beq, _&&_}
-use mathlib.Core.List.{List, []}
+use mathlib.Core.List.{List, [], _∷_}
 use lib.Dec.{leb}
 use lib.ListN.{length, take, drop, getD, replicate, length-take}
 use lib.Seq.{take-take}
@@ -11,7 +11,7 @@ use borrow.Author.Tests.{lt-ltb, le-ltb, lt-leb, le-leb, leb-true}
 use Rattle.wire.proofs.SpliceLaws.{part-length, part-same}
 use Rattle.table.specs.Rows.{at-row}
 use Rattle.table.specs.Rule.{pick}
-use Rattle.order.specs.Talk.{announced, unsaid, own, opened, writeOpened, partTaken, wrongToggle, noTransfer}
+use Rattle.order.specs.Talk.{announced, unsaid, own, opened, partGiven, writeOpened, partTaken, wrongToggle, noTransfer}
 use Rattle.order.specs.Gauge.{tooLong, tooShort}
 use Rattle.sdo.specs.declared.Key.{Key}
 use Rattle.sdo.specs.declared.Direction.the-variants.{Reads, Writes}
@@ -34,15 +34,22 @@ short-in n e = (leb-true 1 n (and-left (leb 1 n) (leb n 4) e), leb-true n 4 (and
 
 -- ---- parts of a read
 
+-- a part that ends inside the first m
+part-within : (n p m : ℕ) (l : List ℕ) → p + n ≤ m → take n (drop p (take m l)) ≡ take n (drop p l)
+part-within n zero m l h = take-take n m l (omega arith)
+part-within n (suc p) zero l h = absurd (omega arith)
+part-within n (suc p) (suc m) [] h = refl
+part-within n (suc p) (suc m) (x ∷ xs) h = part-within n p m xs (omega arith)
+
 module _ (t : Transfer) where
-  pub given-last : {eight : List ℕ} → eight ≡ partBytes t (leb (t .len) (t .place + 7)) → t .len ≤ t .place + 7 → ending eight ≡ givenReply t
+  pub given-last : {eight : List ℕ} → eight ≡ partBytes t true → t .len ≤ t .place + 7 → ending eight ≡ givenReply t
   unfolding givenReply pick
   given-last e h = simp (e, le-leb (t .len) (t .place + 7) h)
 
-  pub given-more : {eight : List ℕ} {next : Transfer} → eight ≡ partBytes t (leb (t .len) (t .place + 7)) → next ≡ turned t → t .place + 7 < t .len
-      → going eight next ≡ givenReply t
+  pub given-more : {eight : List ℕ} {next : Transfer} → eight ≡ answerOf (partGiven (t .toggle) (take 7 (drop (t .place) (t .held))) false) → next ≡ turned t
+      → t .place + 7 < t .len → going eight next ≡ givenReply t
   unfolding givenReply pick
-  given-more e n h = simp (e, n, lt-leb (t .len) (t .place + 7) h)
+  given-more e n h = simp (e, n, lt-leb (t .len) (t .place + 7) h, part-within 7 (t .place) (t .len) (t .held) (omega arith))
 
   module _ (u : Bool) where
     pub next-given : (is-reading (t .direction) && counts t) ≡ true → Bool·beq (t .toggle) u ≡ true → givenReply t ≡ nextPartReply t u

@@ -3,8 +3,7 @@ use crate::Key;
 ghost use mathlib.Core.Bool.{true, false};
 ghost use mathlib.Core.List.{[]};
 ghost use mathlib.Core.Path.{_≡_};
-ghost use Prim.Native.Nat.{_+_, _-_, _*_, _≤_, min};
-ghost use lib.Dec.{leb};
+ghost use Prim.Native.Nat.{_+_, _-_, _*_, _≤_, _<_};
 ghost use lib.ListN.{length, take, drop, getD};
 ghost use Rattle.order.specs.Talk.{opened, partGiven, writeOpened, partTaken, refused, wrongToggle, noTransfer};
 ghost use Rattle.sdo.specs.Eight.{one, answerOf};
@@ -116,27 +115,42 @@ pub fn opened_short(k: Key, held: &[u8], len: usize) -> [u8; 8]
     ]
 }
 
-// Byte 0 of a part of a read: toggle, unused bytes of seven, last mark.
-pub fn part_head(toggle: bool, len: usize, place: usize) -> u8
-    requires { ⌜ (len ≤ 64) × (place ≤ len) ⌝ }
-    ensures { λ r. ⌜ r ≡ 16 * one toggle + 2 * (7 - min 7 (len - place)) + one (leb len (place + 7)) ⌝ }
+// A part of a read that is not the last: all seven bytes are used.
+pub fn part_more(held: &[u8], place: usize, toggle: bool) -> [u8; 8]
+    requires { ⌜ place + 7 < length (now held) ⌝ }
+    ensures { λ r. ⌜ r ≡ answerOf (partGiven toggle (take 7 (drop place (now (held .entry)))) false) ⌝ }
 {
-    if len <= place + 7 {
-        let unused = (place + 7) - len;
-        if toggle {
-            return (17 + 2 * unused) as u8;
-        }
-        return (1 + 2 * unused) as u8;
-    }
-    if toggle { 16 } else { 0 }
+    let head: u8 = if toggle { 16 } else { 0 };
+    [
+        head,
+        held[place],
+        held[place + 1],
+        held[place + 2],
+        held[place + 3],
+        held[place + 4],
+        held[place + 5],
+        held[place + 6],
+    ]
 }
 
-pub fn part_given(held: &[u8], len: usize, place: usize, toggle: bool) -> [u8; 8]
-    requires { ⌜ ((len ≤ 64) × (place ≤ len)) × (length (now held) ≡ 64) ⌝ }
-    ensures { λ r. ⌜ r ≡ answerOf (partGiven toggle (take 7 (drop place (take len (now (held .entry))))) (leb len (place + 7))) ⌝ }
+// Byte 0 of the last part of a read: toggle, unused bytes of seven, last mark.
+fn last_head(toggle: bool, len: usize, place: usize) -> u8
+    requires { ⌜ (len ≤ 64) × (place ≤ len) × (len ≤ place + 7) ⌝ }
+    ensures { λ r. ⌜ r ≡ 16 * one toggle + 2 * (7 - (len - place)) + 1 ⌝ }
+{
+    let unused = (place + 7) - len;
+    if toggle {
+        return (17 + 2 * unused) as u8;
+    }
+    (1 + 2 * unused) as u8
+}
+
+pub fn part_last(held: &[u8], len: usize, place: usize, toggle: bool) -> [u8; 8]
+    requires { ⌜ ((len ≤ 64) × (place ≤ len) × (len ≤ place + 7)) × (length (now held) ≡ 64) ⌝ }
+    ensures { λ r. ⌜ r ≡ answerOf (partGiven toggle (take 7 (drop place (take len (now (held .entry))))) true) ⌝ }
 {
     [
-        part_head(toggle, len, place),
+        last_head(toggle, len, place),
         byte_at(held, len, place),
         byte_at(held, len, place + 1),
         byte_at(held, len, place + 2),

@@ -1,19 +1,21 @@
 -- `line::read::give_part`: each return is one law, given what the calls ensure. Assumes nothing.
-use mathlib.Core.Path.{ap, _∙_}
-use borrow.Author.Needs.{needs}
+use mathlib.Core.Path.{_≡_, ap, _∙_}
+use native.Mathlib.Omega.{arith}
+use lib.ListN.{length}
 use Rattle.sdo.proofs.ReplyLaws.{given-last, given-more}
 use Rattle.line.specs.Answering.{replied}
+use borrow.Author.Needs.{needs}
 use Rattle.line.proofs.read.give_part.Statement.{statement}
 use Rattle.line.proofs.read.give_part.Tie as tie
 
-slice-aggregate-part-given : tie.Need-slice-aggregate-part-given
-slice-aggregate-part-given c = search needs
-
-part-given-requires : tie.Need-part-given-requires
-part-given-requires c κs = search needs
-
 add-if1 : tie.Need-add-if1
 add-if1 c = search needs
+
+slice-aggregate-part-last : tie.Need-slice-aggregate-part-last
+slice-aggregate-part-last c = search needs
+
+part-last-requires : tie.Need-part-last-requires
+part-last-requires c κs = search needs
 
 ended-requires : tie.Need-ended-requires
 ended-requires c κs = search needs
@@ -26,10 +28,19 @@ returns c =
     let s = c .before .before .before .before .before .before .before .before .before in
     let p = s .args .at in
     let o = s .args .state .now in
-    c .before .before .ended .ensures ∙ ap (replied p o) (given-last (s .args .t) (c .before .before .before .before .before .part-given .ensures) (c .before .before .before .before .if1 .taken))
+    c .before .before .ended .ensures ∙ ap (replied p o) (given-last (s .args .t) (c .before .before .before .part-last .ensures) (c .before .before .before .before .before .before .if1 .taken))
 
 turned-requires : tie.Need-turned-requires
 turned-requires c κs = search needs
+
+slice-aggregate-part-more : tie.Need-slice-aggregate-part-more
+slice-aggregate-part-more c = search needs
+
+part-more-requires : tie.Need-part-more-requires
+part-more-requires c κs =
+    let s = c .before .before .before .before .before .before in
+    let h : length (s .args .t .held) ≡ 64 = search needs in
+    omega (arith, h, s .pre .1, c .before .before .before .if1 .left)
 
 going-requires : tie.Need-going-requires
 going-requires c κs = search needs
@@ -42,19 +53,21 @@ returns-2 c =
     let s = c .before .before .before .before .before .before .before .before .before .before in
     let p = s .args .at in
     let o = s .args .state .now in
-    c .before .before .going .ensures ∙ ap (replied p o) (given-more (s .args .t) (c .before .before .before .before .before .before .part-given .ensures) (c .before .before .before .turned .ensures) (c .before .before .before .before .before .if1 .left))
+    c .before .before .going .ensures ∙ ap (replied p o) (given-more (s .args .t) (c .before .before .before .part-more .ensures) (c .before .before .before .before .before .turned .ensures) (c .before .before .before .before .before .before .before .if1 .left))
 
 pub give-part-spec : {M : Type 1} → statement M
 give-part-spec =
     tie.close
     (tie.spec
-    slice-aggregate-part-given
-    part-given-requires
     add-if1
+    slice-aggregate-part-last
+    part-last-requires
     ended-requires
     same-length
     returns
     turned-requires
+    slice-aggregate-part-more
+    part-more-requires
     going-requires
     same-length-2
     returns-2)

@@ -1,12 +1,14 @@
--- `part_given` meets its contract: the bytes, taken one by one, are the part filled up with zeros.
+-- `part_last` meets its contract: the bytes, taken one by one, are the part filled up with zeros.
+use mathlib.Core.Path.{_≡_}
 use native.Mathlib.Omega.{arith}
-use borrow.Author.Needs.{needs}
+use lib.ListN.{length, take, length-take}
 use Rattle.sdo.proofs.Facts.{part-laid}
-use Rattle.sdo.proofs.answer.part_given.Statement.{statement}
-use Rattle.sdo.proofs.answer.part_given.Tie as tie
+use borrow.Author.Needs.{needs}
+use Rattle.sdo.proofs.answer.part_last.Statement.{statement}
+use Rattle.sdo.proofs.answer.part_last.Tie as tie
 
-part-head-requires : tie.Need-part-head-requires
-part-head-requires c κs = search needs
+last-head-requires : tie.Need-last-head-requires
+last-head-requires c κs = search needs
 
 byte-at-requires : tie.Need-byte-at-requires
 byte-at-requires c κs = search needs
@@ -48,13 +50,16 @@ byte-at-requires-7 : tie.Need-byte-at-requires-7
 byte-at-requires-7 c κs = search needs
 
 returns : tie.Need-returns
-returns c = let h = c .before .before .before .before .before .before .before .before .before .pre .1 in part-laid _ _ _ _ _ _ _ _ _ _ _ _ (omega arith) (c .before .before .before .before .before .before .before .part-head .ensures) (c .before .before .before .before .before .before .byte-at .ensures) (c .before .before .before .before .before .byte-at2 .ensures) (c .before .before .before .before .byte-at3 .ensures) (c .before .before .before .byte-at4 .ensures) (c .before .before .byte-at5 .ensures) (c .before .byte-at6 .ensures) (c .byte-at7 .ensures)
+returns c =
+    let s = c .before .before .before .before .before .before .before .before .before in
+    let n : length (take (s .args .len) (s .args .held .now)) ≡ s .args .len = simp length-take (omega (arith, s .pre .1, s .pre .0 .0)) in
+    part-laid (take (s .args .len) (s .args .held .now)) (s .args .place) (s .args .toggle) _ _ _ _ _ _ _ _ _ (rw n (omega (arith, c .before .before .before .before .before .before .before .last-head .ensures, s .pre .0 .1, s .pre .0 .2))) (c .before .before .before .before .before .before .byte-at .ensures) (c .before .before .before .before .before .byte-at2 .ensures) (c .before .before .before .before .byte-at3 .ensures) (c .before .before .before .byte-at4 .ensures) (c .before .before .byte-at5 .ensures) (c .before .byte-at6 .ensures) (c .byte-at7 .ensures)
 
-pub part-given-spec : {M : Type 1} → statement M
-part-given-spec =
+pub part-last-spec : {M : Type 1} → statement M
+part-last-spec =
     tie.close
     (tie.spec
-    part-head-requires
+    last-head-requires
     byte-at-requires
     add-byte-at
     byte-at-requires-2

@@ -1,12 +1,8 @@
--- `part_head` meets its contract, by the last mark and the toggle.
+-- `last_head` meets its contract, by the toggle.
 use native.Mathlib.Omega.{arith}
-use borrow.Author.Tests.{le-leb, lt-leb}
 use borrow.Author.Needs.{needs}
-use Rattle.sdo.proofs.answer.part_head.Statement.{statement}
-use Rattle.sdo.proofs.answer.part_head.Tie as tie
-
-add-if1 : tie.Need-add-if1
-add-if1 c = search needs
+use Rattle.sdo.proofs.answer.last_head.Statement.{statement}
+use Rattle.sdo.proofs.answer.last_head.Tie as tie
 
 add-unused : tie.Need-add-unused
 add-unused c = search needs
@@ -24,7 +20,7 @@ cast-result : tie.Need-cast-result
 cast-result c = search needs
 
 returns : tie.Need-returns
-returns c = rw (c .if2 .taken, le-leb _ _ (c .before .if1 .taken)) (omega arith)
+returns c = rw (c .if1 .taken) (omega arith)
 
 mul-result-2 : tie.Need-mul-result-2
 mul-result-2 c = search needs
@@ -36,19 +32,12 @@ cast-result-2 : tie.Need-cast-result-2
 cast-result-2 c = search needs
 
 returns-2 : tie.Need-returns-2
-returns-2 c = rw (c .if2 .left, le-leb _ _ (c .before .if1 .taken)) (omega arith)
+returns-2 c = rw (c .if1 .left) (omega arith)
 
-returns-3 : tie.Need-returns-3
-returns-3 c = rw (c .if3 .taken, lt-leb _ _ (c .before .if1 .left)) (omega arith)
-
-returns-4 : tie.Need-returns-4
-returns-4 c = rw (c .if3 .left, lt-leb _ _ (c .before .if1 .left)) (omega arith)
-
-pub part-head-spec : {M : Type 1} → statement M
-part-head-spec =
+pub last-head-spec : {M : Type 1} → statement M
+last-head-spec =
     tie.close
     (tie.spec
-    add-if1
     add-unused
     sub-unused
     mul-result
@@ -58,6 +47,4 @@ part-head-spec =
     mul-result-2
     add-result-2
     cast-result-2
-    returns-2
-    returns-3
-    returns-4)
+    returns-2)
