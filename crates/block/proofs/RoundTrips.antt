@@ -1,14 +1,13 @@
 -- Loaded after stored, and stored after loaded, for any rows that keep the rule. Assumes nothing.
 use mathlib.Core.Bool.{true, or-true, _&&_}
 use mathlib.Core.List.{List, [], _∷_, _++_, append-assoc}
-use mathlib.Core.Logic.{⊎-elim}
 use mathlib.Core.Path.{_≡_, refl, sym, ap, _∙_}
 use Prim.Native.Nat.{ℕ, zero, suc, _+_, _-_, _≤_, _<_}
 use native.Mathlib.Nat.{not-suc-le-zero, le-of-suc-le-suc}
 use native.Mathlib.Omega.{arith}
 use lib.Dec.{leb, eqb}
-use lib.ListN.{length, take, drop, getD, replicate, length-append, length-take, length-drop, take-append-drop}
-use lib.Seq.{take-at, drop-at, drop-drop, take-add, getD-take, getD-drop, length-take-le}
+use lib.ListN.{length, take, drop, getD, replicate, length-append, length-drop, take-append-drop}
+use lib.Seq.{take-at, drop-at, drop-drop, take-add, length-take-le}
 use borrow.Author.Tests.{le-leb, eqb-true, eq-eqb}
 use Rattle.bits.proofs.Numbers.{length-msb, num-msb, msb-num, small-take, small-drop}
 use Rattle.bits.proofs.Parts.{field-mid}
@@ -18,8 +17,9 @@ use Rattle.block.proofs.Kept.{Kept}
 use Rattle.block.proofs.Walking.{fits, Keeps, part-long, length-saved}
 use Rattle.block.proofs.Zeros.{zeros, zeros-are}
 use Rattle.block.specs.Block.{LAYOUT, row-width, part, entry-bits, entry-bytes, within, widths, saved, load-rows, values-good, rows-good, all-zero, block-of, good}
-use Rattle.table.proofs.Walks.{lt-or-ge, and-true}
+use Rattle.table.proofs.Walks.{and-true}
 use Rattle.table.specs.Row.{Row, no-row}
+use Rattle.wire.proofs.LittleLaws.{bytes-part}
 use Rattle.wire.proofs.SpliceLaws.{length-splice, part-same, part-apart, splice-own}
 use Rattle.wire.specs.Little.{fromLittle, number}
 use Rattle.wire.specs.Splice.{splice, apart}
@@ -48,18 +48,6 @@ rising-clear (r ∷ rs) q m t =
     (rw (le-leb (q + m) (r .place) g) (or-true (leb (r .place + r .len) q)), rising-clear rs q m (rising-below rs (q + m) (r .place + r .len) (omega arith) (t .1)))
 
 -- ---- one entry
-
-bytes-part : (values : List ℕ) (r : Row) → Bytes values → Bytes (part values r)
-bytes-part values r h k =
-    ⊎-elim
-    (λ l. rw (getD-take (r .len) (drop (r .place) values) k 0 l, getD-drop (r .place) values k 0) (h (r .place + k)))
-    (λ g. rw (getD-past (part values r) k (omega (arith, length-take (r .len) (drop (r .place) values)))) (omega arith))
-    (lt-or-ge k (r .len))
-  where
-    getD-past : (l : List ℕ) (i : ℕ) → length l ≤ i → getD l i 0 ≡ 0
-    getD-past [] i g = refl
-    getD-past (x ∷ l) zero g = absurd (not-suc-le-zero g)
-    getD-past (x ∷ l) (suc i) g = getD-past l i (le-of-suc-le-suc g)
 
 room-of : (values : List ℕ) (r : Row) → Kept r → length values ≡ 1024 → leb (r .place) (length values) ≡ true
 room-of values r k n = le-leb (r .place) (length values) (omega (arith, k .sized .inside))
@@ -148,7 +136,7 @@ module _ (others : List ℕ) (hb : Bytes others) (hn : length others ≡ 1024) w
       let d : drop at (front ++ ((own ++ saved others rs) ++ rest)) ≡ own ++ (saved others rs ++ rest) =
       drop-at front ((own ++ saved others rs) ++ rest) at e ∙ append-assoc own (saved others rs) rest in
       let b : entry-bytes (r .kind) (r .len) (own ++ (saved others rs ++ rest)) ≡ part others r =
-      entry-back (r .kind) (r .len) (part others r) (saved others rs ++ rest) (bytes-part others r hb) lp (λ h. fits others r (k .0) hb (gg .0)) in
+      entry-back (r .kind) (r .len) (part others r) (saved others rs ++ rest) (bytes-part others (r .place) (r .len) hb) lp (λ h. fits others r (k .0) hb (gg .0)) in
       let n : length (front ++ own) ≡ at + row-width r = omega (arith, length-append front own, length-entry (r .kind) (r .len) (part others r) lp) in
       let f : front ++ ((own ++ saved others rs) ++ rest) ≡ (front ++ own) ++ (saved others rs ++ rest) =
       ap (λ (l : List ℕ). front ++ l) (append-assoc own (saved others rs) rest) ∙ sym (append-assoc front own (saved others rs ++ rest)) in

@@ -1,17 +1,17 @@
 -- THE CARD THERE AND BACK: what was written is read at every bit, and writing what was read changes nothing. Assumes nothing.
 use mathlib.Core.Bool.{Bool, true, false, cond}
 use mathlib.Core.Path.{_≡_, refl, sym, ap, _∙_}
-use mathlib.Core.List.{List, [], _∷_, _++_, append-nil}
-use Prim.Native.Nat.{ℕ, zero, suc, _+_, _≤_}
+use mathlib.Core.List.{List, [], _++_, append-nil}
+use Prim.Native.Nat.{ℕ, _+_, _≤_}
 use native.Mathlib.Omega.{arith}
 use lib.Dec.{eqb}
 use lib.ListN.{length, take, drop, length-drop, drop-of-length-le, take-append-drop}
-use lib.Seq.{drop-drop, length-take-le, getD-drop}
+use lib.Seq.{drop-drop, length-take-le}
 use borrow.Author.Tests.{eqb-true}
 use Rattle.wire.specs.Splice.{splice}
 use Rattle.wire.specs.Little.{number, put-number}
-use Rattle.wire.proofs.SpliceLaws.{splice-own, part-length}
-use Rattle.wire.proofs.LittleLaws.{Bytes, little-from}
+use Rattle.wire.proofs.SpliceLaws.{splice-own}
+use Rattle.wire.proofs.LittleLaws.{Bytes, little-number}
 use Rattle.bits.specs.Bits.{msb, bits, field, packed, Small}
 use Rattle.bits.specs.Fields.{encode, decode, total}
 use Rattle.bits.proofs.Numbers.{length-bits, msb-num, small-bits, small-take, small-drop, bytes-of}
@@ -80,19 +80,9 @@ module _ (values card : List ℕ) (long : length values ≡ 1024) (size : length
 
 -- ---- writing what was read
 
-bytes-take : (n : ℕ) (l : List ℕ) → Bytes l → Bytes (take n l)
-bytes-take zero l h k = omega arith
-bytes-take (suc n) [] h k = omega arith
-bytes-take (suc n) (x ∷ l) h zero = h 0
-bytes-take (suc n) (x ∷ l) h (suc k) = bytes-take n l (λ j. h (suc j)) k
-
 -- what stands there already
 put-own : (l : List ℕ) → Bytes l → (at n : ℕ) → at + n ≤ length l → put-number l at n (number l at n) ≡ l
-unfolding number
-put-own l h at n room =
-    let m : length (take n (drop at l)) ≡ n = part-length l at n room in
-    let b : Bytes (take n (drop at l)) = bytes-take n (drop at l) (λ k. rw getD-drop (h (at + k))) in
-    ap (splice l at) (rw m at (little-from (take n (drop at l)) b)) ∙ splice-own l at n room
+put-own l h at n room = ap (splice l at) (little-number l at n h room) ∙ splice-own l at n room
 
 enable-own : (l : List ℕ) (at : ℕ) → number l at 1 ≤ 1 → enable l at ≡ number l at 1
 unfolding enable

@@ -81,7 +81,7 @@ fn take_part(
     count: usize,
     last: bool,
 ) -> [u8; 8]
-    requires { ⌜ Ready at (now values) (now block) (now state) × ((length (now m) ≡ 8) × (count ≤ 7)) × (t .row < row-count) × (t .len ≡ at-row (t .row) .len) × (t .place ≤ t .len) ⌝ }
+    requires { ⌜ Ready at (now values) (now block) (now state) × ((length (now m) ≡ 8) × (count ≤ 7)) × (t .row < row-count) × (t .len ≡ at-row (t .row) .len) × (t .place ≤ t .len) × (t ≡ record-at (now state) at) ⌝ }
     ensures { λ r. ⌜ told (now (values .exit)) (now (block .exit)) (now (state .exit)) r ≡ answered at (now (values .entry)) (now (block .entry)) (now (state .entry)) (takenReply t (take count (drop 1 (now (m .entry)))) last) ⌝ }
 {
     let row = t.row;
@@ -101,7 +101,8 @@ fn take_part(
         let ending = conclude(values, block, state, at, row, kind, &held[..len]);
         return answer_by(ending, row, eight);
     }
-    reply::going(state, at, record::grown(t, m, count), eight)
+    state::put_part(state, at, t, m, count);
+    eight
 }
 
 pub fn send_part(

@@ -1,5 +1,5 @@
 -- The state bytes as the code reads and writes them: each law takes what the calls ensure. Assumes nothing.
-use mathlib.Core.Path.{_≡_, refl}
+use mathlib.Core.Path.{_≡_, refl, ap, _∙_}
 use mathlib.Core.Bool.{Bool}
 use mathlib.Core.List.{List, _++_, append-assoc}
 use Prim.Native.Nat.{ℕ, _+_, _≤_}
@@ -9,11 +9,13 @@ use lib.Seq.{take-all}
 use Rattle.wire.specs.Splice.{splice}
 use Rattle.wire.specs.Little.{little, number}
 use Rattle.wire.proofs.LittleLaws.{length-little}
-use Rattle.wire.proofs.SpliceLaws.{splice-whole, part-length}
+use Rattle.wire.proofs.SpliceLaws.{length-splice, splice-whole, part-length}
+use Rattle.wire.proofs.Overlaps.{splice-inside}
 use Rattle.trip.specs.declared.Trips.{Trips}
 use Rattle.sdo.specs.declared.Direction.{Direction}
 use Rattle.sdo.specs.declared.Transfer.{Transfer}
 use Rattle.sdo.specs.Records.{allZero}
+use Rattle.sdo.specs.Replies.{grown}
 use Rattle.state.specs.State.{direction-of, direction-byte, bit, is-on, record-at, record-tail, record-bytes, trips-place, trips-bytes}
 use Rattle.state.proofs.InARow.{then, four-in-a-row}
 
@@ -48,6 +50,20 @@ module _ (l : List ℕ) (at : ℕ) (t : Transfer) (room : at + 70 ≤ length l) 
       let tail : List ℕ = record-tail t in
       let long : length tail ≡ 6 = simp (length-append, length-little) in
       rw (e₂, e₁, take-all 64 (t .held) (omega arith)) (then l at (at + 64) (t .held) tail (omega arith) (omega arith))
+
+-- a part of a write: its bytes, and what stands behind the held ones
+pub part-put : (l : List ℕ) (at : ℕ) (t : Transfer) (bytes : List ℕ) → at + 70 ≤ length l → t ≡ record-at l at → t .place + length bytes ≤ 64
+    → {next : Transfer} {l₁ l₂ : List ℕ} → l₁ ≡ splice l (at + t .place) bytes → next ≡ grown t bytes → l₂ ≡ splice l₁ (at + 64) (record-tail next) → l₂ ≡ splice l at (record-bytes (grown t bytes))
+unfolding record-at record-bytes record-tail
+part-put l at t bytes room is fits e₁ en e₂ =
+    let held : t .held ≡ take 64 (drop at l) = ap (λ (x : Transfer). x .held) is in
+    let lh : length (take 64 (drop at l)) ≡ 64 = part-length l at 64 (omega arith) in
+    let h : List ℕ = splice (t .held) (t .place) bytes in
+    let ln : length h ≡ 64 = rw held (length-splice (take 64 (drop at l)) (t .place) bytes (omega arith) ∙ lh) in
+    let tail : List ℕ = record-tail (grown t bytes) in
+    let long : length tail ≡ 6 = simp (length-append, length-little) in
+    let s : splice l at h ≡ splice l (at + t .place) bytes = rw held (splice-inside l at 64 (t .place) bytes (omega arith) fits) in
+    e₂ ∙ rw (e₁, en) (rw (← s) (then l at (at + 64) h tail (omega arith) (omega arith)))
 
 -- an ended transfer's record
 pub record-cleared : (l : List ℕ) (at : ℕ) {l′ : List ℕ} → l′ ≡ splice l at (take 70 (drop 0 (replicate 70 0))) → l′ ≡ splice l at (record-bytes allZero)

@@ -1,14 +1,16 @@
 // The 256 state bytes: transfer records and trip states by value, and back.
 use sdo::Direction;
 use sdo::Transfer;
+use sdo::record;
 use trip::On;
 use trip::Trips;
 use wire::wide;
 ghost use mathlib.Core.Path.{_≡_};
 ghost use Prim.Native.Nat.{_+_, _≤_, _<_};
-ghost use lib.ListN.{length};
+ghost use lib.ListN.{length, take, drop};
 ghost use Rattle.wire.specs.Splice.{splice};
 ghost use Rattle.sdo.specs.Records.{allZero};
+ghost use Rattle.sdo.specs.Replies.{grown};
 ghost use Rattle.state.specs.State.{record-at, record-tail, record-bytes, trips-place, trips-at, trips-bytes, direction-of, direction-byte, is-on, bit, dropped};
 
 fn direction_of(n: u8) -> Direction
@@ -98,6 +100,27 @@ pub fn put_record(state: &mut [u8], at: usize, t: Transfer)
     let held = t.held;
     wire::copy_at(state, at, &held, 0, 64);
     put_tail(state, at, t);
+}
+
+// count bytes of message m, from its byte 1 on, to a place. Most parts have seven.
+fn copy_part(state: &mut [u8], place: usize, m: &[u8], count: usize)
+    requires { ⌜ (place + count ≤ length (now state)) × (length (now m) ≡ 8) × (count ≤ 7) ⌝ }
+    ensures { λ _. ⌜ now (state .exit) ≡ splice (now (state .entry)) place (take count (drop 1 (now (m .entry)))) ⌝ }
+{
+    if count == 7 {
+        wire::copy_seven(state, place, m, 1);
+    } else {
+        wire::copy_at(state, place, m, 1, count);
+    }
+}
+
+// The record that stands there with a part of a write: only the part and what stands behind the held bytes are written.
+pub fn put_part(state: &mut [u8], at: usize, t: Transfer, m: &[u8], count: usize)
+    requires { ⌜ (at + 70 ≤ length (now state)) × (t ≡ record-at (now state) at) × ((length (now m) ≡ 8) × (count ≤ 7)) × ((t .len ≤ 64) × (t .place + count ≤ t .len)) ⌝ }
+    ensures { λ _. ⌜ now (state .exit) ≡ splice (now (state .entry)) at (record-bytes (grown t (take count (drop 1 (now (m .entry)))))) ⌝ }
+{
+    copy_part(state, at + t.place, m, count);
+    put_tail(state, at, record::grown(t, m, count));
 }
 
 // The trip states; a byte other than 0 is on.

@@ -1,5 +1,6 @@
 -- Laws that other crates cite.
 pub mod SpliceLaws
+pub mod Overlaps
 pub mod LittleLaws
 pub mod RealLaws
 pub mod Writes

@@ -2,17 +2,17 @@
 use mathlib.Core.Bool.{true}
 use mathlib.Core.Path.{_≡_, refl, ap}
 use mathlib.Core.List.{List, [], _∷_, _++_}
-use Prim.Native.Nat.{ℕ, zero, suc, _+_, _*_, _/_, _%_, _^_, _<_}
+use Prim.Native.Nat.{ℕ, zero, suc, _+_, _*_, _/_, _%_, _^_, _≤_, _<_}
 use native.Mathlib.Nat.{mul-assoc}
 use native.Mathlib.Omega.{arith}
 use lib.Dec.{leb, ltb}
 use lib.Pow.{pow-add}
-use lib.ListN.{length, getD}
-use lib.Seq.{take-nil, drop-nil}
+use lib.ListN.{length, take, drop, getD}
+use lib.Seq.{take-nil, drop-nil, getD-drop}
 use borrow.Author.Tests.{ltb-true}
 use Rattle.wire.specs.Splice.{splice, apart}
 use Rattle.wire.specs.Little.{little, fromLittle, number, put-number}
-use Rattle.wire.proofs.SpliceLaws.{splice-length, part-same, part-apart}
+use Rattle.wire.proofs.SpliceLaws.{splice-length, part-length, part-same, part-apart}
 
 -- ---- the bytes of a number
 
@@ -73,6 +73,21 @@ more b x m h k = omega arith
 pub number-lt : (l : List ℕ) (at n : ℕ) → Bytes l → number l at n < 2 ^ (8 * n)
 number-lt l at zero h = rw number-none (omega arith)
 number-lt l at (suc n) h = rw (number-suc, wider) (more (getD l at 0) (number l (suc at) n) (2 ^ (8 * n)) (h at) (number-lt l (suc at) n h))
+
+-- ---- the bytes of a part, and of the number that stands there
+
+bytes-take : (n : ℕ) (l : List ℕ) → Bytes l → Bytes (take n l)
+bytes-take zero l h k = omega arith
+bytes-take (suc n) [] h k = omega arith
+bytes-take (suc n) (x ∷ l) h zero = h 0
+bytes-take (suc n) (x ∷ l) h (suc k) = bytes-take n l (λ j. h (suc j)) k
+
+pub bytes-part : (l : List ℕ) (at n : ℕ) → Bytes l → Bytes (take n (drop at l))
+bytes-part l at n h = bytes-take n (drop at l) (λ k. rw getD-drop (h (at + k)))
+
+pub little-number : (l : List ℕ) (at n : ℕ) → Bytes l → at + n ≤ length l → little n (number l at n) ≡ take n (drop at l)
+unfolding number
+little-number l at n h room = rw (part-length l at n room) at (little-from (take n (drop at l)) (bytes-part l at n h))
 
 -- ---- a number read after a splice: the conditions are tests, so that numbers settle them
 

@@ -22,7 +22,7 @@ writing-requires : tie.Need-writing-requires
 writing-requires c κs = search needs
 
 take-part-requires : tie.Need-take-part-requires
-take-part-requires c κs = let f = counts-fits (c .before .before .before .before .before .before .record-at .result) (and-right (is-writing (c .before .before .before .before .before .before .record-at .result .direction)) _ (said (c .before .before .before .before .before .writing .ensures) (c .before .before .before .before .if1 .taken))) in let s = c .before .before .before .before .before .before .before .before .before .before .before .before in (s .pre .0, (s .pre .1, s .pre .2), f .there, f .length-is, f .place-in)
+take-part-requires c κs = let f = counts-fits (c .before .before .before .before .before .before .record-at .result) (and-right (is-writing (c .before .before .before .before .before .before .record-at .result .direction)) _ (said (c .before .before .before .before .before .writing .ensures) (c .before .before .before .before .if1 .taken))) in let s = c .before .before .before .before .before .before .before .before .before .before .before .before in (s .pre .0, (s .pre .1, s .pre .2), f .there, f .length-is, f .place-in, c .before .before .before .before .before .before .record-at .ensures)
 
 same-length : tie.Need-same-length
 same-length c = search needs

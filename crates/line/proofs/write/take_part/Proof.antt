@@ -16,7 +16,7 @@ use Rattle.sdo.specs.Replies.{refusal, going, grown}
 use Rattle.sdo.specs.declared.Transfer.{Transfer}
 use Rattle.sdo.proofs.ReplyLaws.{taken-long, taken-short, taken-whole, taken-more}
 use Rattle.line.specs.Answering.{concluded, told-by, answered}
-use Rattle.line.proofs.Answered.{refused-row, told-as, committed-told}
+use Rattle.line.proofs.Answered.{refused-row, going-kept, told-as, committed-told}
 use Rattle.line.proofs.Endings.{concluded-told, committed-most, committed-length}
 use Rattle.line.proofs.write.take_part.Statement.{statement}
 use Rattle.line.proofs.write.take_part.Tie as tie
@@ -117,18 +117,18 @@ returns-3 c =
     ∙ ap₂ (λ (e : List ℕ) (g : Transfer). told-by p o (concluded (memory-of v b) (t .row) e (commit-row (at-row (t .row)) (take (t .len) (g .held)) (memory-of v b)))) (yes .ensures) (c .before .before .before .before .before .before .before .before .before .before .before .before .before .before .grown .ensures))
     ∙ ap (answered p v b o) (taken-whole t bytes (s .args .last) long (c .before .before .before .before .before .before .before .before .before .before .before .before .before .before .before .before .if2 .taken) full)
 
-grown-requires-2 : tie.Need-grown-requires-2
-grown-requires-2 c κs = let h = committed-most (c .before .before .before .before .before .before .before .before .args .t .row) (c .before .before .before .before .before .before .before .before .pre .2) (c .before .before .before .before .before .before .before .before .pre .3) in search needs
-
-going-requires : tie.Need-going-requires
-going-requires c κs = search needs
+put-part-requires : tie.Need-put-part-requires
+put-part-requires c κs =
+    let s = c .before .before .before .before .before .before .before .before in
+    let h = committed-most (s .args .t .row) (s .pre .2) (s .pre .3) in
+    (omega (arith, s .pre .0 .inside, s .pre .0 .state-long), s .pre .5, s .pre .1, (omega (arith, h), c .before .before .if1 .left))
 
 same-length-6 : tie.Need-same-length-6
 same-length-6 c = search needs
 
 returns-4 : tie.Need-returns-4
 returns-4 c =
-    let s = c .before .before .before .before .before .before .before .before .before .before .before .before in
+    let s = c .before .before .before .before .before .before .before .before .before .before .before in
     let p = s .args .at in
     let v = s .args .values .now in
     let b = s .args .block .now in
@@ -136,7 +136,8 @@ returns-4 c =
     let t = s .args .t in
     let bytes = take (s .args .count) (drop 1 (s .args .m .now)) in
     let long = part-length (s .args .m .now) 1 (s .args .count) (omega (arith, s .pre .1 .0, s .pre .1 .1)) in
-    told-as p v b o (going (c .before .before .before .before .before .before .before .part-taken .result) (c .before .before .before .grown2 .result)) refl (c .before .before .going .ensures) (ap₂ (λ (e : List ℕ) (g : Transfer). going e g) (c .before .before .before .before .before .before .before .part-taken .ensures) (c .before .before .before .grown2 .ensures) ∙ taken-more t bytes (s .args .last) long (c .before .before .before .before .before .if2 .left) (c .before .before .before .before .before .before .if1 .left))
+    let yes = c .before .before .before .before .before .before .part-taken in
+    told-as p v b o (going (yes .result) (grown t bytes)) refl (going-kept p o (yes .result) (grown t bytes) (c .before .before .put-part .ensures)) (ap (λ (e : List ℕ). going e (grown t bytes)) (yes .ensures) ∙ taken-more t bytes (s .args .last) long (c .before .before .before .before .if2 .left) (c .before .before .before .before .before .if1 .left))
 
 pub take-part-spec : {M : Type 1} → statement M
 take-part-spec =
@@ -163,7 +164,6 @@ take-part-spec =
     same-length-4
     same-length-5
     returns-3
-    grown-requires-2
-    going-requires
+    put-part-requires
     same-length-6
     returns-4)
