@@ -1,6 +1,8 @@
-// One line for each vector.
+// One line for each vector, and the bytes that a vector is made of.
 use io::write_all;
 use libc::STDOUT_FILENO;
+ghost use Prim.Native.Nat.{_+_, _≤_};
+ghost use lib.ListN.{length};
 
 pub fn say(name: &[u8], right: bool) {
     if right {
@@ -14,4 +16,37 @@ pub fn say(name: &[u8], right: bool) {
 
 pub fn compare_values(name: &[u8], got: &[u8; 1024], expected: &[u8; 1024]) {
     say(name, check::same(got, expected));
+}
+
+// The last count bytes of run, as they are written, from byte at on.
+pub fn put(bytes: &mut [u8], at: usize, count: usize, run: u64)
+    requires { ⌜ at + count ≤ length (now bytes) ⌝ }
+{
+    let mut left = run;
+    let mut i = count;
+    while 0 < i {
+        i -= 1;
+        bytes[at + i] = (left % 256) as u8;
+        left = left / 256;
+    }
+}
+
+// Four bytes, where there is room for them.
+fn put_four(bytes: &mut [u8], at: usize, four: u64) {
+    if bytes.len() < 4 {
+        return;
+    }
+    if bytes.len() - 4 < at {
+        return;
+    }
+    put(bytes, at, 4, four);
+}
+
+// Four bytes from each place on.
+pub fn put_fours(bytes: &mut [u8], places: &[usize], fours: &[u64]) {
+    let mut i = 0;
+    while i < places.len() && i < fours.len() {
+        put_four(bytes, places[i], fours[i]);
+        i += 1;
+    }
 }
