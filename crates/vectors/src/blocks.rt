@@ -2,7 +2,7 @@
 // 265 8005:02, 266 8005:11, 274 8005:13, 306 800E:01, 307 800E:02, 308 800E:11, 340 800E:12, 372 :13, 404 :14, 436 :15, 468 :16,
 // 500 :17, 532 :18, 564 :1A, 596 800F:01, 597 800F:02, 598 800F:11, 630 :12, 662 :13, 694 :14, 726 :15, 758 :16, 790 :17, 822 :18,
 // 854 :1A, 886 F3A1:01 to 1110 F3A8:01, 1142 F840:01, 1174 F840:03, 1182 F9F7:00; from 1214 on zeros.
-// A vector is the block of the defaults with some bytes from one place on, written as one number.
+// A vector is the block of the defaults with some bytes from one place on: the place, how many, and the bytes as they stand.
 use crate::report::put;
 use crate::report::put_fours;
 use crate::report::say;
@@ -11,7 +11,9 @@ ghost use Prim.Native.Nat.{_+_, _≤_};
 // The defaults that are not zero. 8005:11 is 1: bit 273. 800E1100 from bit 340, 800E1400 from 436 and 60001100 from 564 on
 // begin in the middle of a byte. 800F1100 from bit 630, 800F1400 from 726 and 60001100 from 854 on begin two bits before a
 // byte's end: 10 00000000 00111100 01000100, 10 00000000 00111100 01010000, 01 10000000 00000000 01000100. 00220000 from bit 1142 on:
-// 00 00000000 10001000. F840:03 is 1: bit 1181.
+// 00 00000000 10001000. F840:03 is 1: bit 1181. Here they stand in fours, with the byte that each begins at.
+const PLACES: [usize; 9] = [0, 34, 42, 54, 70, 78, 90, 106, 144];
+
 const DEFAULTS: [u64; 9] = [
     0x11000000,
     0x40000000,
@@ -26,20 +28,16 @@ const DEFAULTS: [u64; 9] = [
 
 pub fn default_block() -> [u8; 512] {
     let mut block = [0u8; 512];
-    put_fours(
-        &mut block,
-        &[0, 34, 42, 54, 70, 78, 90, 106, 144],
-        &DEFAULTS,
-    );
+    put_fours(&mut block, &PLACES, &DEFAULTS);
     block
 }
 
-// A good block is taken; a faulty one is refused and leaves every value byte.
+// A good block is taken and changes the values; a faulty one is refused and leaves every value byte.
 fn loads(name: &[u8], block: &[u8; 512], good: bool) {
     let mut values = [0x5Au8; 1024];
     let taken = block::load(block, &mut values);
     let left = check::same(&values, &[0x5Au8; 1024]);
-    say(name, taken == good && left != good);
+    say(name, (taken == good) & (left != good));
 }
 
 fn loads_with(name: &[u8], at: usize, count: usize, run: u64, good: bool)
@@ -146,8 +144,11 @@ fn sources() {
 // A BOOL is one bit, and no bit is outside its limits: 264, 265, 306, 307, 596 and 597.
 fn bools() {
     let mut block = default_block();
-    put(&mut block, 33, 6, 0xC04000000030);
-    put(&mut block, 74, 1, 0x0C);
+    put_fours(
+        &mut block,
+        &[33, 38, 74],
+        &[0xC0400000, 0x30000000, 0x0C000000],
+    );
     loads(b"limit: every BOOL is 1", &block, true);
 }
 

@@ -1,5 +1,5 @@
-// Storing and loading: NV entries at their places in the values, and their bits in the block. Values stand here as little-endian
-// numbers at their places.
+// Storing and loading: NV entries at their places in the values, little-endian, and their bits in the block. Bytes stand here in fours
+// as they are, with the byte that each begins at.
 use crate::blocks::default_block;
 use crate::report::compare_values;
 use crate::report::put_fours;
@@ -18,7 +18,7 @@ fn default_values() -> [u8; 1024] {
 fn stores(name: &[u8], values: &[u8; 1024], expected: &[u8; 512]) {
     let mut block = [0xA5u8; 512];
     let taken = block::store(values, &mut block);
-    say(name, taken && check::same(&block, expected));
+    say(name, taken & check::same(&block, expected));
 }
 
 // Label 41 42 43, bytes 1 to 3 of the block. 8005:01 on: bit 264. 800E:11 is 1.5, 3FC00000, from the middle of byte 38 on.
@@ -80,10 +80,10 @@ pub fn stored() {
 fn refuses(name: &[u8], values: &[u8; 1024]) {
     let mut block = [0xA5u8; 512];
     let taken = block::store(values, &mut block);
-    say(name, !taken && check::same(&block, &[0xA5u8; 512]));
+    say(name, !taken & check::same(&block, &[0xA5u8; 512]));
 }
 
-// The defaults, with a number of len bytes lent at a place.
+// The defaults, with one number of len bytes lent at a place.
 fn refuses_lent(name: &[u8], at: usize, len: usize, v: u64)
     requires { ⌜ at + len ≤ 1024 ⌝ }
 {
@@ -141,7 +141,7 @@ fn loads_defaults() {
     let taken = block::load(&default_block(), &mut values);
     say(
         b"load: the defaults into zeros",
-        taken && check::same(&values, &nv_defaults()),
+        taken & check::same(&values, &nv_defaults()),
     );
 }
 
@@ -154,7 +154,7 @@ fn comes_back() {
     let loaded = block::load(&block, &mut fresh);
     say(
         b"load: what was stored comes back",
-        stored && loaded && check::same(&fresh, &values),
+        stored & loaded & check::same(&fresh, &values),
     );
 }
 
@@ -177,7 +177,7 @@ fn same_block() {
     let stored = block::store(&values, &mut block);
     say(
         b"store: what was loaded, bit by bit",
-        loaded && stored && check::same(&block, &some_block()),
+        loaded & stored & check::same(&block, &some_block()),
     );
 }
 

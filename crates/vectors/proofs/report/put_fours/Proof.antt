@@ -45,12 +45,6 @@ same-length c = search needs
 returns : tie.Need-returns Inv-loop μ-loop
 returns c = search needs
 
-same-length-2 : tie.Need-same-length-2 Inv-loop μ-loop
-same-length-2 c = search needs
-
-returns-2 : tie.Need-returns-2 Inv-loop μ-loop
-returns-2 c = search needs
-
 pub put-fours-spec : {M : Type 1} → statement M
 put-fours-spec =
     tie.close
@@ -67,6 +61,4 @@ put-fours-spec =
     loop-less
     loop-again
     same-length
-    returns
-    same-length-2
-    returns-2)
+    returns)
