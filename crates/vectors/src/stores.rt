@@ -1,7 +1,10 @@
-// Storing and loading: NV entries at their places in the values, and their bits in the block.
+// Storing and loading: NV entries at their places in the values, little-endian, and their bits in the block. Bytes stand here in fours
+// as they are, with the byte that each begins at.
 use crate::blocks::default_block;
 use crate::report::compare_values;
+use crate::report::put_fours;
 use crate::report::say;
+ghost use Prim.Native.Nat.{_+_, _≤_};
 
 fn default_values() -> [u8; 1024] {
     let mut values = [0u8; 1024];
@@ -9,38 +12,34 @@ fn default_values() -> [u8; 1024] {
     values
 }
 
+// ---- storing
+
 // A store that is taken writes these 512 bytes.
 fn stores(name: &[u8], values: &[u8; 1024], expected: &[u8; 512]) {
     let mut block = [0xA5u8; 512];
     let taken = block::store(values, &mut block);
-    say(name, taken && check::same(&block, expected));
+    say(name, taken & check::same(&block, expected));
 }
 
 // Label 41 42 43, bytes 1 to 3 of the block. 8005:01 on: bit 264. 800E:11 is 1.5, 3FC00000, from the middle of byte 38 on.
 // F9F7 is 80000001: bit 1182, 02 in byte 147, and bit 1213, 04 in byte 151.
 fn some_values() -> [u8; 1024] {
     let mut values = default_values();
-    values[204] = 0x41;
-    values[205] = 0x42;
-    values[206] = 0x43;
-    values[251] = 0x01;
-    values[262] = 0xC0;
-    values[263] = 0x3F;
-    values[579] = 0x01;
-    values[582] = 0x80;
+    put_fours(
+        &mut values,
+        &[204, 251, 260, 579],
+        &[0x41424300, 0x01000100, 0x0000C03F, 0x01000080],
+    );
     values
 }
 
 fn some_block() -> [u8; 512] {
     let mut block = default_block();
-    block[1] = 0x41;
-    block[2] = 0x42;
-    block[3] = 0x43;
-    block[33] = 0x80;
-    block[38] = 0x03;
-    block[39] = 0xFC;
-    block[147] = 0x06;
-    block[151] = 0x04;
+    put_fours(
+        &mut block,
+        &[1, 33, 38, 147, 151],
+        &[0x41424300, 0x80400000, 0x03FC0000, 0x06000000, 0x04000000],
+    );
     block
 }
 
@@ -53,13 +52,15 @@ fn other_values() -> [u8; 1024] {
     values
 }
 
-pub fn stored() {
-    stores(b"store: the defaults", &default_values(), &default_block());
+fn stores_some() {
     stores(
         b"store: label, BOOL, REAL and a last entry",
         &some_values(),
         &some_block(),
     );
+}
+
+fn stores_others() {
     stores(
         b"store: lock, summary and spare bytes stay out",
         &other_values(),
@@ -67,76 +68,80 @@ pub fn stored() {
     );
 }
 
+pub fn stored() {
+    stores(b"store: the defaults", &default_values(), &default_block());
+    stores_some();
+    stores_others();
+}
+
+// ---- refusing
+
 // A lent NV value outside its limits: nothing is written.
 fn refuses(name: &[u8], values: &[u8; 1024]) {
     let mut block = [0xA5u8; 512];
     let taken = block::store(values, &mut block);
-    say(name, !taken && check::same(&block, &[0xA5u8; 512]));
+    say(name, !taken & check::same(&block, &[0xA5u8; 512]));
 }
 
-fn lent(at: usize, byte: u8) -> [u8; 1024] {
+// The defaults, with one number of len bytes lent at a place.
+fn refuses_lent(name: &[u8], at: usize, len: usize, v: u64)
+    requires { ⌜ at + len ≤ 1024 ⌝ }
+{
     let mut values = default_values();
-    if at < 1024 {
-        values[at] = byte;
-    }
-    values
+    wire::put_number(&mut values, at, len, v);
+    refuses(name, &values);
 }
 
-// At 251 stands 8005:01, at 253 8005:11, at 260 800E:11 (its fourth byte 45: 2048), at 264 800E:12.
+// At 251 stands 8005:01, at 253 8005:11, at 260 800E:11 (2048 is 45000000).
 fn refused_first() {
     refuses(b"store: all zero, so 8005:11 is 0", &[0u8; 1024]);
-    refuses(b"store: BOOL 2 lent", &lent(251, 0x02));
-    refuses(b"store: USINT above", &lent(253, 0x03));
-    refuses(b"store: REAL above", &lent(263, 0x45));
+    refuses_lent(b"store: BOOL 2 lent", 251, 1, 0x02);
+    refuses_lent(b"store: USINT above", 253, 1, 0x03);
+    refuses_lent(b"store: REAL above", 260, 4, 0x45000000);
 }
 
-// At 460 stands F840:01 (its third byte 21: 00210000), at 464 F840:03.
+// At 264 stands 800E:12, at 460 F840:01, at 464 F840:03, at 254 8005:13.
 fn refused_last() {
-    refuses(b"store: source index other", &lent(264, 0x01));
-    refuses(b"store: UDINT below", &lent(462, 0x21));
-    refuses(b"store: last NV number with limits", &lent(464, 0x06));
-}
-
-// At 254 stands 8005:13: its third and fourth byte C0 7F.
-fn refused_real() {
-    let mut values = lent(256, 0xC0);
-    values[257] = 0x7F;
-    refuses(b"store: REAL not a number", &values);
+    refuses_lent(b"store: source index other", 264, 4, 0x800E1101);
+    refuses_lent(b"store: UDINT below", 460, 4, 0x00210000);
+    refuses_lent(b"store: last NV number with limits", 464, 1, 0x06);
+    refuses_lent(b"store: REAL not a number", 254, 4, 0x7FC00000);
 }
 
 pub fn refused() {
     refused_first();
     refused_last();
-    refused_real();
 }
 
-// The defaults loaded into zeros: 8005:11, the source indices, the unit and its code, little-endian, and no other byte.
+// ---- there and back
+
+// The NV entries whose defaults are not zero: 8005:11, the source indices, the unit and its code.
+fn nv_defaults() -> [u8; 1024] {
+    let mut values = [0u8; 1024];
+    put_fours(
+        &mut values,
+        &[253, 264, 276, 292, 302, 314, 330, 461],
+        &[
+            0x01000000,
+            0x00110E80,
+            0x00140E80,
+            0x00110060,
+            0x00110F80,
+            0x00140F80,
+            0x00110060,
+            0x00220001,
+        ],
+    );
+    values
+}
+
+// The defaults loaded into zeros are these and no other byte.
 fn loads_defaults() {
     let mut values = [0u8; 1024];
     let taken = block::load(&default_block(), &mut values);
-    let mut expected = [0u8; 1024];
-    expected[253] = 0x01;
-    expected[265] = 0x11;
-    expected[266] = 0x0E;
-    expected[267] = 0x80;
-    expected[277] = 0x14;
-    expected[278] = 0x0E;
-    expected[279] = 0x80;
-    expected[293] = 0x11;
-    expected[295] = 0x60;
-    expected[303] = 0x11;
-    expected[304] = 0x0F;
-    expected[305] = 0x80;
-    expected[315] = 0x14;
-    expected[316] = 0x0F;
-    expected[317] = 0x80;
-    expected[331] = 0x11;
-    expected[333] = 0x60;
-    expected[462] = 0x22;
-    expected[464] = 0x01;
     say(
         b"load: the defaults into zeros",
-        taken && check::same(&values, &expected),
+        taken & check::same(&values, &nv_defaults()),
     );
 }
 
@@ -149,7 +154,7 @@ fn comes_back() {
     let loaded = block::load(&block, &mut fresh);
     say(
         b"load: what was stored comes back",
-        stored && loaded && check::same(&fresh, &values),
+        stored & loaded & check::same(&fresh, &values),
     );
 }
 
@@ -172,7 +177,7 @@ fn same_block() {
     let stored = block::store(&values, &mut block);
     say(
         b"store: what was loaded, bit by bit",
-        loaded && stored && check::same(&block, &some_block()),
+        loaded & stored & check::same(&block, &some_block()),
     );
 }
 
