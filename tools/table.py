@@ -302,6 +302,11 @@ use Prim.Native.Nat.{ℕ}
     return text
 
 
+def shape(row):
+    """Type, access, NV mark and length in one number."""
+    return KINDS.index(row["kind"]) + 16 * ACCESS[row["access"]] + 64 * row["nv"] + 128 * row["len"]
+
+
 def columns_rt(rows, end):
     pairs, numbers = limit_pairs(rows)
     words = default_words(rows, end)
@@ -309,10 +314,7 @@ def columns_rt(rows, end):
     columns = [
         ("INDEX", "u16", [r["index"] for r in rows]),
         ("SUB", "u8", [r["sub"] for r in rows]),
-        ("KIND", "u8", [KINDS.index(r["kind"]) for r in rows]),
-        ("ACCESS", "u8", [ACCESS[r["access"]] for r in rows]),
-        ("NV", "u8", [r["nv"] for r in rows]),
-        ("LEN", "u8", [r["len"] for r in rows]),
+        ("SHAPE", "u16", [shape(r) for r in rows]),
         ("PLACE", "u16", [r["place"] for r in rows]),
         ("LIMITS", "u8", numbers),
         ("DEFAULT", "u32", [r["def"] for r in rows]),
@@ -328,8 +330,9 @@ def columns_rt(rows, end):
         ("NV_HIGH", "u32", [rank(r, r["high"]) if is_number(r) else 2**32 - 1 for r in nv]),
     ]
     text = """// The object table as flat constant arrays. tools/table.py writes this file from docs/object-table.md.
-// LIMITS has for each row the number of its limits in MINIMUM and MAXIMUM: few pairs serve all rows, and a column that is
-// read is laid out on the stack, so columns are narrow. WORD_PLACE and WORD have the words that make the defaults out of zeros.
+// A column that is read is laid out on the stack, so columns are few and narrow: SHAPE has for each row type, access, NV mark and
+// length in one number, and LIMITS the number of its limits in MINIMUM and MAXIMUM, since few pairs serve all rows. WORD_PLACE and WORD
+// have the words that make the defaults out of zeros.
 // NV_.. has the NV rows alone: the bit of the saved block at which each entry begins (and the last ends), and its limits as places in
 // the order of its type. NV_CUT has the bits that are looked at as a number: of a string the first 32, which its NV_LOW and NV_HIGH do
 // not refuse.

@@ -11,6 +11,7 @@ use borrow.Author.Tests.{eqb-false, eq-eqb, ne-eqb, le-leb}
 use Rattle.order.specs.Talk.{Read, value, denied, Sizes, sizes, closed, Outcome, stored, restarted, declined}
 use Rattle.table.specs.Row.{Row, RO, WO, CARD, COMMAND}
 use Rattle.table.specs.Rows.{row-count, at-row}
+use Rattle.table.specs.Columns.{shape}
 use Rattle.table.specs.Rule.{held}
 use Rattle.table.specs.Find.{find-row}
 use Rattle.table.specs.declared.Found.{Found}
@@ -50,14 +51,14 @@ code c h k = record { fits = h; not-transfer = ne c 0x05040001 (omega arith); no
 
 -- a gate: its row is in the table, its code is one from 06020000 on
 GateOk : Gate → Type 0
-GateOk (Open r) = r < row-count
+GateOk (Open r s) = r < row-count
 GateOk (Shut c) = Code c
 
 gate-ok : (barred c i s : ℕ) (f : Found) → Code c → find-row i s ≡ f → GateOk (gate barred c f)
 unfolding GateOk gate
 gate-ok barred c i s (At r) k e = go (eqb (at-row r .access) barred)
   where
-    go : (b : Bool) → GateOk (cond b (Shut c) (Open r))
+    go : (b : Bool) → GateOk (cond b (Shut c) (Open r (shape (at-row r))))
     go true = k
     go false = find-at i s r e .there
 gate-ok barred c i s NoIndex k e = code 0x06020000 (omega arith) (omega arith)
@@ -87,7 +88,7 @@ value-short r h values =
 
 read-ok : (g : Gate) (values : List ℕ) → GateOk g → ReadOk (read-through g values)
 unfolding GateOk ReadOk read-through
-read-ok (Open r) values h = omega (arith, value-short r h values)
+read-ok (Open r s) values h = omega (arith, value-short r h values)
 read-ok (Shut c) values h = h
 
 SizesOk : Sizes → Type 0
@@ -96,7 +97,7 @@ SizesOk (closed c) = Code c
 
 sizes-ok : (g : Gate) → GateOk g → SizesOk (sizes-of g)
 unfolding GateOk SizesOk sizes-of
-sizes-ok (Open r) h = tt
+sizes-ok (Open r s) h = tt
 sizes-ok (Shut c) h = h
 
 module _ {S : Type 0} where
@@ -148,7 +149,7 @@ trips-ok g (declined c) h = h
 
 commit-ok : (g : Gate) (s : Store) (bytes : List ℕ) → GateOk g → OutcomeOk (commit-through g s bytes)
 unfolding GateOk OutcomeOk commit-through commit-row
-commit-ok (Open r) s bytes h =
+commit-ok (Open r z) s bytes h =
     trips-ok s (commit-row (at-row r) bytes (s .memory))
     (accepted-ok (first-code (last-checks (at-row r) (s .memory .values) bytes)) (effect (at-row r) bytes (s .memory)) (first-ok (at-row r) (s .memory .values) bytes) (effect-ok (at-row r) bytes (s .memory)))
 commit-ok (Shut c) s bytes h = h
@@ -197,7 +198,7 @@ module _ (k : Key) where
       there : r < row-count
       there = find-at (k .index) (k .sub) r e .there
 
-      go : (b : Bool) → eqb (at-row r .access) WO ≡ b → ReadRow (read-through (cond b (Shut write-only) (Open r)) values)
+      go : (b : Bool) → eqb (at-row r .access) WO ≡ b → ReadRow (read-through (cond b (Shut write-only) (Open r (shape (at-row r)))) values)
       go true q = tt
       go false q =
           record {
@@ -220,7 +221,7 @@ module _ (k : Key) where
       there : r < row-count
       there = find-at (k .index) (k .sub) r e .there
 
-      go : (b : Bool) → eqb (at-row r .access) RO ≡ b → WriteRow (sizes-of (cond b (Shut read-only) (Open r)))
+      go : (b : Bool) → eqb (at-row r .access) RO ≡ b → WriteRow (sizes-of (cond b (Shut read-only) (Open r (shape (at-row r)))))
       go true q = tt
       go false q = (
         refl,
@@ -248,7 +249,7 @@ commit-good : (g : Store) (k : Key) (bytes : List ℕ) → GoodStore g → RowOf
 unfolding commit-whole commit-through gate
 commit-good g k bytes ok w = rw (w .found) (go (eqb (at-row (w .row) .access) RO))
   where
-    go : (b : Bool) → GoodAfter bag552 GoodStore (commit-through (cond b (Shut read-only) (Open (w .row))) g bytes)
+    go : (b : Bool) → GoodAfter bag552 GoodStore (commit-through (cond b (Shut read-only) (Open (w .row) (shape (at-row (w .row))))) g bytes)
     go true = tt
     go false =
         trips-good g (commit-row (at-row (w .row)) bytes (g .memory))

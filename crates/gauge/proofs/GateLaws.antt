@@ -5,10 +5,12 @@ use Prim.Native.Nat.{ℕ, _<_}
 use lib.Dec.{eqb}
 use borrow.Author.Tests.{eq-eqb, ne-eqb}
 use Rattle.table.specs.Rows.{at-row, row-count}
+use Rattle.table.specs.Columns.{shape, access-in}
 use Rattle.table.specs.Find.{find-row}
 use Rattle.table.specs.declared.Found.{Found}
 use Rattle.table.specs.declared.Found.the-variants.{At, NoIndex, NoSub}
 use Rattle.table.proofs.Table.{find-at}
+use Rattle.table.proofs.Shapes.{access-told}
 use Rattle.gauge.specs.Gates.{gate, index-absent, subindex-absent}
 use Rattle.gauge.specs.declared.gate.Gate.{Gate}
 use Rattle.gauge.specs.declared.gate.Gate.the-variants.{Open, Shut}
@@ -17,13 +19,17 @@ module _ (barred code index sub : ℕ) {f : Found} (found : f ≡ find-row index
   pub there : (r : ℕ) → f ≡ At r → r < row-count
   there r e = find-at index sub r (sym found ∙ e) .there
 
-  pub barred-row : (r a : ℕ) → f ≡ At r → a ≡ at-row r .access → a ≡ barred → Shut code ≡ gate barred code (find-row index sub)
-  unfolding gate
-  barred-row r a e q b = rw (sym found ∙ e, eq-eqb (at-row r .access) barred (sym q ∙ b))
+  module _ (r a : ℕ) {s : ℕ} (e : f ≡ At r) (h : s ≡ shape (at-row r)) (q : a ≡ access-in s) where
+    access : a ≡ at-row r .access
+    access = access-told r (there r e) h q
 
-  pub open-row : (r a : ℕ) → f ≡ At r → a ≡ at-row r .access → (a ≡ barred → ⊥) → Open r ≡ gate barred code (find-row index sub)
-  unfolding gate
-  open-row r a e q b = rw (sym found ∙ e, ne-eqb (at-row r .access) barred (λ z. b (q ∙ z)))
+    pub barred-row : a ≡ barred → Shut code ≡ gate barred code (find-row index sub)
+    unfolding gate
+    barred-row b = rw (sym found ∙ e, eq-eqb (at-row r .access) barred (sym access ∙ b))
+
+    pub open-row : (a ≡ barred → ⊥) → Open r s ≡ gate barred code (find-row index sub)
+    unfolding gate
+    open-row b = rw (sym found ∙ e, ne-eqb (at-row r .access) barred (λ z. b (access ∙ z)), h)
 
   pub no-index : f ≡ NoIndex → Shut index-absent ≡ gate barred code (find-row index sub)
   unfolding gate

@@ -6,6 +6,7 @@ use lib.Dec.{eqb}
 use Rattle.order.specs.Talk.{Sizes, sizes, closed}
 use Rattle.table.specs.Row.{RO, WO}
 use Rattle.table.specs.Rows.{at-row}
+use Rattle.table.specs.Columns.{shape}
 use Rattle.table.specs.declared.Found.{Found}
 use Rattle.table.specs.declared.Found.the-variants.{At, NoIndex, NoSub}
 use Rattle.gauge.specs.declared.gate.Gate.{Gate}
@@ -23,9 +24,9 @@ write-only = 0x06010001
 abbrev pub read-only : ℕ
 read-only = 0x06010002
 
--- the way to a row, where rows of one access are barred
+-- the way to a row and its shape, where rows of one access are barred
 unfoldable pub gate : ℕ → ℕ → Found → Gate
-gate barred code (At r) = cond (eqb (at-row r .access) barred) (Shut code) (Open r)
+gate barred code (At r) = cond (eqb (at-row r .access) barred) (Shut code) (Open r (shape (at-row r)))
 gate barred code NoIndex = Shut index-absent
 gate barred code NoSub = Shut subindex-absent
 
@@ -44,5 +45,5 @@ largest r = at-row r .len
 
 -- what an open gate lets through to a write
 unfoldable pub sizes-of : Gate → Sizes
-sizes-of (Open r) = sizes (smallest r) (largest r)
+sizes-of (Open r s) = sizes (smallest r) (largest r)
 sizes-of (Shut c) = closed c

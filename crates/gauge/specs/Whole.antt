@@ -32,7 +32,7 @@ unfoldable pub value-of : Row → List ℕ → List ℕ
 value-of r values = by-type r (card-of values) (read-word (command-at (r .index))) (entry-of r values)
 
 unfoldable pub read-through : Gate → List ℕ → Read
-read-through (Open r) values = value (value-of (at-row r) values)
+read-through (Open r s) values = value (value-of (at-row r) values)
 read-through (Shut code) values = denied code
 
 unfoldable pub read-whole : Store → ℕ → ℕ → Read
@@ -91,7 +91,7 @@ with-trips g (restarted m) = restarted (record { memory = m; trips = all-off })
 with-trips g (declined code) = declined code
 
 unfoldable pub commit-through : Gate → Store → List ℕ → Outcome Store
-commit-through (Open r) g bytes = with-trips g (commit-row (at-row r) bytes (g .memory))
+commit-through (Open r s) g bytes = with-trips g (commit-row (at-row r) bytes (g .memory))
 commit-through (Shut code) g bytes = declined code
 
 unfoldable pub commit-whole : Store → ℕ → ℕ → List ℕ → Outcome Store

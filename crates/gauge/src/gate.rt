@@ -5,9 +5,9 @@ ghost use mathlib.Core.Path.{_≡_};
 ghost use Rattle.table.specs.Find.{find-row};
 ghost use Rattle.gauge.specs.Gates.{gate, read-gate, write-gate};
 
-// The row that a key opens, or the code that refuses it.
+// The row that a key opens, with its shape, or the code that refuses it.
 pub enum Gate {
-    Open(usize),
+    Open(usize, u16),
     Shut(u32),
 }
 
@@ -18,10 +18,11 @@ fn way(index: u16, sub: u8, barred: u8, code: u32) -> Gate
     let found = table::find(index, sub);
     match found {
         Found::At(row) => {
-            if field::access_of(row) == barred {
+            let shape = field::shape_of(row);
+            if field::access_in(shape) == barred {
                 return Gate::Shut(code);
             }
-            Gate::Open(row)
+            Gate::Open(row, shape)
         }
         Found::NoIndex => Gate::Shut(0x06020000),
         Found::NoSub => Gate::Shut(0x06090011),

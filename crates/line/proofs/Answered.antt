@@ -78,7 +78,7 @@ unfolding through open-read openReadReply
 read-done k values = go (read-gate (find-row (k .index) (k .sub)))
   where
     go : (g : Gate) → (through g k (open-read values)) .act ≡ Done
-    go (Open row) = pick-done (short (at-row row .len)) _ _ refl refl
+    go (Open row shape) = pick-done (short (at-row row .len)) _ _ refl refl
     go (Shut c) = refl
 
 pub write-done : (row : ℕ) (said : Said) → (openWriteReply row said) .act ≡ Done

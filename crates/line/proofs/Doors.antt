@@ -12,6 +12,7 @@ use Rattle.order.specs.Talk.{refused}
 use Rattle.order.specs.Talk.{opened as told}
 use Rattle.table.specs.Row.{CARD}
 use Rattle.table.specs.Rows.{at-row, row-count}
+use Rattle.table.specs.Columns.{shape}
 use Rattle.table.specs.Find.{find-row}
 use Rattle.table.specs.declared.Found.{Found}
 use Rattle.table.specs.declared.Found.the-variants.{At, NoIndex, NoSub}
@@ -30,31 +31,32 @@ use Rattle.sdo.proofs.RecordLaws.{found-key}
 use Rattle.sdo.proofs.ReplyLaws.{filled-value, read-short}
 use Rattle.line.specs.Answering.{through, open-read}
 
--- an open gate's row was found, and its access is not the barred one
-pub record Opened (barred index sub row : ℕ) : Type 0 where
+-- an open gate's row was found, its access is not the barred one, and its shape comes with it
+pub record Opened (barred index sub row s : ℕ) : Type 0 where
   pub found : find-row index sub ≡ At row
   pub allowed : at-row row .access ≡ barred → ⊥
+  pub shaped : s ≡ shape (at-row row)
 
-pub opened : (barred code index sub row : ℕ) (f : Found) → find-row index sub ≡ f → gate barred code f ≡ Open row → Opened barred index sub row
+pub opened : (barred code index sub row s : ℕ) (f : Found) → find-row index sub ≡ f → gate barred code f ≡ Open row s → Opened barred index sub row s
 unfolding gate
-opened barred code index sub row (At r) e g = go (eqb (at-row r .access) barred) refl g
+opened barred code index sub row s (At r) e g = go (eqb (at-row r .access) barred) refl g
   where
-    go : (b : Bool) → eqb (at-row r .access) barred ≡ b → cond b (Shut code) (Open r) ≡ Open row → Opened barred index sub row
+    go : (b : Bool) → eqb (at-row r .access) barred ≡ b → cond b (Shut code) (Open r (shape (at-row r))) ≡ Open row s → Opened barred index sub row s
     go true q h = let z : _≡_ {A = ℕ} 0 1 = cc in absurd (omega arith)
-    go false q h = let z : r ≡ row = cc in rw (← z) (record { found = e; allowed = eqb-false (at-row r .access) barred q })
-opened barred code index sub row NoIndex e g = let z : _≡_ {A = ℕ} 0 1 = cc in absurd (omega arith)
-opened barred code index sub row NoSub e g = let z : _≡_ {A = ℕ} 0 1 = cc in absurd (omega arith)
+    go false q h =
+        let z : r ≡ row = cc in
+        let y : shape (at-row r) ≡ s = cc in
+        record { found = e ∙ ap At z; allowed = λ a. eqb-false (at-row r .access) barred q (ap (λ (n : ℕ). at-row n .access) z ∙ a); shaped = sym y ∙ ap (λ (n : ℕ). shape (at-row n)) z }
+opened barred code index sub row s NoIndex e g = let z : _≡_ {A = ℕ} 0 1 = cc in absurd (omega arith)
+opened barred code index sub row s NoSub e g = let z : _≡_ {A = ℕ} 0 1 = cc in absurd (omega arith)
 
-module _ (barred code index sub row : ℕ) {g : Gate} (gated : g ≡ gate barred code (find-row index sub)) (is-open : g ≡ Open row) where
-  pub opened-by : Opened barred index sub row
-  opened-by = opened barred code index sub row (find-row index sub) refl (sym gated ∙ is-open)
+-- what an open gate gives its caller: the row is in the table, the key is the row's, the shape too
+module _ (barred code row s : ℕ) (k : Key) {g : Gate} (gated : g ≡ gate barred code (find-row (k .index) (k .sub))) (is-open : g ≡ Open row s) where
+  opened-by : Opened barred (k .index) (k .sub) row s
+  opened-by = opened barred code (k .index) (k .sub) row s (find-row (k .index) (k .sub)) refl (sym gated ∙ is-open)
 
-  pub open-there : row < row-count
-  open-there = find-at index sub row (opened-by .found) .there
-
--- the key of a row that it opens
-pub open-key : (barred code row : ℕ) (k : Key) {g : Gate} → g ≡ gate barred code (find-row (k .index) (k .sub)) → g ≡ Open row → k ≡ keyAt row
-open-key barred code row k e o = found-key k row (opened-by barred code (k .index) (k .sub) row e o .found)
+  pub open-row : (row < row-count) × (k ≡ keyAt row) × (s ≡ shape (at-row row))
+  open-row = (find-at (k .index) (k .sub) row (opened-by .found) .there, found-key k row (opened-by .found), opened-by .shaped)
 
 -- ---- the replies
 
@@ -63,9 +65,9 @@ module _ (barred code : ℕ) (k : Key) (f : ℕ → Reply) {g : Gate} (gated : g
   unfolding through
   shut-reply c q = rw (sym gated ∙ q)
 
-  pub open-reply : (row : ℕ) → g ≡ Open row → f row ≡ through (gate barred code (find-row (k .index) (k .sub))) k f
+  pub open-reply : (row s : ℕ) → g ≡ Open row s → f row ≡ through (gate barred code (find-row (k .index) (k .sub))) k f
   unfolding through
-  open-reply row q = rw (sym gated ∙ q)
+  open-reply row s q = rw (sym gated ∙ q)
 
 pub read-reply : (values : List ℕ) (row : ℕ) {held : List ℕ} {len : ℕ} {x : Reply} → held ≡ filled (value-of (at-row row) values) → len ≡ at-row row .len
     → x ≡ openReadReply row held len → x ≡ open-read values row

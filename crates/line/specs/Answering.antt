@@ -29,7 +29,7 @@ use Rattle.state.specs.State.{record-bytes, dropped}
 
 -- a gate that is shut answers with its code
 unfoldable pub through : Gate → Key → (ℕ → Reply) → Reply
-through (Open row) k opening = opening row
+through (Open row shape) k opening = opening row
 through (Shut code) k opening = ending (answerOf (refused k code))
 
 -- a read is opened: the value as it is now

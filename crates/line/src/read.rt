@@ -13,6 +13,7 @@ ghost use Prim.Native.Nat.{_+_, _≤_, _<_};
 ghost use lib.ListN.{length};
 ghost use Rattle.order.specs.Talk.{opened};
 ghost use Rattle.table.specs.Rows.{row-count, at-row};
+ghost use Rattle.table.specs.Columns.{shape as row-shape};
 ghost use Rattle.table.specs.Find.{find-row};
 ghost use Rattle.gauge.specs.Gates.{read-gate};
 ghost use Rattle.gauge.specs.Whole.{value-of};
@@ -72,12 +73,12 @@ fn short_answer(values: &[u8], k: Key, row: usize, kind: u8, len: usize) -> [u8;
 }
 
 // A read is opened on the row of its key.
-fn open_row(values: &[u8], state: &mut [u8], at: usize, k: Key, row: usize) -> [u8; 8]
-    requires { ⌜ (length (now values) ≡ 1024) × (at + 70 ≤ length (now state)) × (row < row-count) × (k ≡ keyAt row) ⌝ }
+fn open_row(values: &[u8], state: &mut [u8], at: usize, k: Key, row: usize, shape: u16) -> [u8; 8]
+    requires { ⌜ (length (now values) ≡ 1024) × (at + 70 ≤ length (now state)) × (row < row-count) × (k ≡ keyAt row) × (shape ≡ row-shape (at-row row)) ⌝ }
     ensures { λ r. ⌜ kept (now (state .exit)) r ≡ replied at (now (state .entry)) (open-read (now (values .entry)) row) ⌝ }
 {
-    let kind = table::field::kind_of(row);
-    let len = table::field::len_by(row, kind);
+    let kind = table::field::kind_in(shape);
+    let len = table::field::len_in(shape);
     if answer::is_short(len) {
         return reply::ended(state, at, short_answer(values, k, row, kind, len));
     }
@@ -92,7 +93,7 @@ pub fn open_read(values: &[u8], state: &mut [u8], at: usize, k: Key) -> [u8; 8]
 {
     let gate = gate::to_read(k.index, k.sub);
     match gate {
-        Gate::Open(row) => open_row(values, state, at, k, row),
+        Gate::Open(row, shape) => open_row(values, state, at, k, row, shape),
         Gate::Shut(code) => reply::refused(state, at, k, code),
     }
 }

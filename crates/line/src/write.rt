@@ -14,6 +14,7 @@ ghost use Prim.Native.Nat.{_+_, _≤_, _<_};
 ghost use lib.ListN.{length, take, drop};
 ghost use Rattle.order.specs.Talk.{announced, unsaid, own};
 ghost use Rattle.table.specs.Rows.{row-count, at-row};
+ghost use Rattle.table.specs.Columns.{shape as row-shape};
 ghost use Rattle.table.specs.Find.{find-row};
 ghost use Rattle.gauge.specs.Gates.{write-gate};
 ghost use Rattle.gauge.specs.Endings.{left, left-by};
@@ -132,7 +133,7 @@ pub fn send_part(
 
 // ---- openings on the row of their key
 
-// A write in parts, of the row's own length.
+// A write in parts, of the row's own length, which is not announced.
 fn open_parts(state: &mut [u8], at: usize, k: Key, row: usize, len: usize) -> [u8; 8]
     requires { ⌜ (at + 70 ≤ length (now state)) × (row < row-count) × (k ≡ keyAt row) × (len ≡ at-row row .len) ⌝ }
     ensures { λ r. ⌜ kept (now (state .exit)) r ≡ replied at (now (state .entry)) (openWriteReply row unsaid) ⌝ }
@@ -141,20 +142,11 @@ fn open_parts(state: &mut [u8], at: usize, k: Key, row: usize, len: usize) -> [u
     reply::going(state, at, next, answer::write_opened(k))
 }
 
-// Its length is not announced.
-fn open_unsaid(state: &mut [u8], at: usize, k: Key, row: usize) -> [u8; 8]
-    requires { ⌜ (at + 70 ≤ length (now state)) × (row < row-count) × (k ≡ keyAt row) ⌝ }
-    ensures { λ r. ⌜ kept (now (state .exit)) r ≡ replied at (now (state .entry)) (openWriteReply row unsaid) ⌝ }
-{
-    open_parts(state, at, k, row, table::field::len_of(row))
-}
-
 // Its length is announced.
-fn open_announced(state: &mut [u8], at: usize, k: Key, row: usize, n: u32) -> [u8; 8]
-    requires { ⌜ (at + 70 ≤ length (now state)) × (row < row-count) × (k ≡ keyAt row) ⌝ }
+fn open_announced(state: &mut [u8], at: usize, k: Key, row: usize, len: usize, n: u32) -> [u8; 8]
+    requires { ⌜ (at + 70 ≤ length (now state)) × (row < row-count) × (k ≡ keyAt row) × (len ≡ at-row row .len) ⌝ }
     ensures { λ r. ⌜ kept (now (state .exit)) r ≡ replied at (now (state .entry)) (openWriteReply row (announced n)) ⌝ }
 {
-    let len = table::field::len_of(row);
     let said = n as usize;
     if len < said {
         return reply::refused(state, at, k, 0x06070012);
@@ -192,14 +184,14 @@ fn write_sized(
     at: usize,
     k: Key,
     row: usize,
+    kind: u8,
+    len: usize,
     m: &[u8],
     count: usize,
 ) -> [u8; 8]
-    requires { ⌜ Ready at (now values) (now block) (now state) × ((row < row-count) × (k ≡ keyAt row)) × (length (now m) ≡ 8) × (count ≤ 4) ⌝ }
+    requires { ⌜ Ready at (now values) (now block) (now state) × ((row < row-count) × (k ≡ keyAt row) × (kind ≡ at-row row .kind)) × (len ≡ at-row row .len) × (length (now m) ≡ 8) × (count ≤ 4) ⌝ }
     ensures { λ r. ⌜ told (now (values .exit)) (now (block .exit)) (now (state .exit)) r ≡ answered at (now (values .entry)) (now (block .entry)) (now (state .entry)) (expeditedReply row (announced count) (take count (drop 4 (now (m .entry))))) ⌝ }
 {
-    let kind = table::field::kind_of(row);
-    let len = table::field::len_by(row, kind);
     if len < count {
         return reply::refused(state, at, k, 0x06070012);
     }
@@ -217,13 +209,13 @@ fn write_own(
     at: usize,
     k: Key,
     row: usize,
+    kind: u8,
+    len: usize,
     m: &[u8],
 ) -> [u8; 8]
-    requires { ⌜ Ready at (now values) (now block) (now state) × ((row < row-count) × (k ≡ keyAt row)) × (length (now m) ≡ 8) ⌝ }
+    requires { ⌜ Ready at (now values) (now block) (now state) × ((row < row-count) × (k ≡ keyAt row) × (kind ≡ at-row row .kind)) × (len ≡ at-row row .len) × (length (now m) ≡ 8) ⌝ }
     ensures { λ r. ⌜ told (now (values .exit)) (now (block .exit)) (now (state .exit)) r ≡ answered at (now (values .entry)) (now (block .entry)) (now (state .entry)) (expeditedReply row own (take 4 (drop 4 (now (m .entry))))) ⌝ }
 {
-    let kind = table::field::kind_of(row);
-    let len = table::field::len_by(row, kind);
     if 4 < len {
         return reply::refused(state, at, k, 0x06070013);
     }
@@ -237,17 +229,20 @@ fn open_on(
     at: usize,
     k: Key,
     row: usize,
+    shape: u16,
     opening: Opening,
     m: &[u8],
 ) -> [u8; 8]
-    requires { ⌜ Ready at (now values) (now block) (now state) × ((row < row-count) × (k ≡ keyAt row)) × (length (now m) ≡ 8) × (messageOf (now m) ≡ OpenWrite k opening) ⌝ }
+    requires { ⌜ Ready at (now values) (now block) (now state) × ((row < row-count) × (k ≡ keyAt row) × (shape ≡ row-shape (at-row row))) × (length (now m) ≡ 8) × (messageOf (now m) ≡ OpenWrite k opening) ⌝ }
     ensures { λ r. ⌜ told (now (values .exit)) (now (block .exit)) (now (state .exit)) r ≡ answered at (now (values .entry)) (now (block .entry)) (now (state .entry)) (open-write opening (now (m .entry)) row) ⌝ }
 {
+    let kind = table::field::kind_in(shape);
+    let len = table::field::len_in(shape);
     match opening {
-        Opening::Value(count) => write_sized(values, block, state, at, k, row, m, count),
-        Opening::Own => write_own(values, block, state, at, k, row, m),
-        Opening::Announced(n) => open_announced(state, at, k, row, n),
-        Opening::Unsaid => open_unsaid(state, at, k, row),
+        Opening::Value(count) => write_sized(values, block, state, at, k, row, kind, len, m, count),
+        Opening::Own => write_own(values, block, state, at, k, row, kind, len, m),
+        Opening::Announced(n) => open_announced(state, at, k, row, len, n),
+        Opening::Unsaid => open_parts(state, at, k, row, len),
     }
 }
 
@@ -265,7 +260,7 @@ pub fn open_write(
 {
     let gate = gate::to_write(k.index, k.sub);
     match gate {
-        Gate::Open(row) => open_on(values, block, state, at, k, row, opening, m),
+        Gate::Open(row, shape) => open_on(values, block, state, at, k, row, shape, opening, m),
         Gate::Shut(code) => reply::refused(state, at, k, code),
     }
 }

@@ -37,8 +37,9 @@ fn counts(row: usize, d: Direction, len: usize, place: usize) -> bool
     if table::ROWS <= row {
         return false;
     }
-    if access_allows(d, table::field::access_of(row)) {
-        if len == table::field::len_of(row) {
+    let shape = table::field::shape_of(row);
+    if access_allows(d, table::field::access_in(shape)) {
+        if len == table::field::len_in(shape) {
             return place <= len;
         }
         return false;

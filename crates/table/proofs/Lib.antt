@@ -4,6 +4,7 @@ pub mod Widths
 pub mod Searched
 pub mod Pairs
 pub mod Table
+pub mod Shapes
 pub mod Way
 pub mod ColumnLaws
 pub mod Placed

@@ -27,7 +27,7 @@ module _ (r : Row) (rule : RowRule r) where
   as-printed = rule .width
 
   -- of a type that is known
-  pub width-by : (k : ℕ) → r .kind ≡ k → r .len ≡ length-by (r .len) k
+  width-by : (k : ℕ) → r .kind ≡ k → r .len ≡ length-by (r .len) k
   width-by k e = as-printed ∙ ap (length-by (r .len)) e
 
   pub number-narrow : r .kind ≤ REAL → r .len ≤ 8

@@ -4,6 +4,7 @@ use wire::wide;
 ghost use mathlib.Core.Path.{_≡_};
 ghost use Prim.Native.Nat.{_<_};
 ghost use Rattle.table.specs.Rows.{row-count, at-row};
+ghost use Rattle.table.specs.Columns.{shape, kind-in, access-in, nv-in, len-in};
 
 pub fn index_of(row: usize) -> u16
     requires { ⌜ row < row-count ⌝ }
@@ -19,48 +20,64 @@ pub fn sub_of(row: usize) -> u8
     columns::SUB[row]
 }
 
+// Type, access, NV mark and length of a row, as one number: where more than one is asked for, the column is read once.
+pub fn shape_of(row: usize) -> u16
+    requires { ⌜ row < row-count ⌝ }
+    ensures { λ r. ⌜ r ≡ shape (at-row row) ⌝ }
+{
+    columns::SHAPE[row]
+}
+
+pub fn kind_in(shape: u16) -> u8
+    ensures { λ r. ⌜ r ≡ kind-in shape ⌝ }
+{
+    (shape % 16) as u8
+}
+
+pub fn access_in(shape: u16) -> u8
+    ensures { λ r. ⌜ r ≡ access-in shape ⌝ }
+{
+    (shape / 16 % 4) as u8
+}
+
+pub fn nv_in(shape: u16) -> u8
+    ensures { λ r. ⌜ r ≡ nv-in shape ⌝ }
+{
+    (shape / 64 % 2) as u8
+}
+
+pub fn len_in(shape: u16) -> usize
+    ensures { λ r. ⌜ r ≡ len-in shape ⌝ }
+{
+    wide::pair_to_usize(shape / 128)
+}
+
 pub fn kind_of(row: usize) -> u8
     requires { ⌜ row < row-count ⌝ }
     ensures { λ r. ⌜ r ≡ at-row row .kind ⌝ }
 {
-    columns::KIND[row]
+    kind_in(shape_of(row))
 }
 
 pub fn access_of(row: usize) -> u8
     requires { ⌜ row < row-count ⌝ }
     ensures { λ r. ⌜ r ≡ at-row row .access ⌝ }
 {
-    columns::ACCESS[row]
+    access_in(shape_of(row))
 }
 
 pub fn nv_of(row: usize) -> u8
     requires { ⌜ row < row-count ⌝ }
     ensures { λ r. ⌜ r ≡ at-row row .nv ⌝ }
 {
-    columns::NV[row]
+    nv_in(shape_of(row))
 }
 
 pub fn len_of(row: usize) -> usize
     requires { ⌜ row < row-count ⌝ }
     ensures { λ r. ⌜ r ≡ at-row row .len ⌝ }
 {
-    wide::to_usize(columns::LEN[row])
-}
-
-// The length of a row of this type: that of a number follows from its type, with no column read.
-pub fn len_by(row: usize, kind: u8) -> usize
-    requires { ⌜ (row < row-count) × (kind ≡ at-row row .kind) ⌝ }
-    ensures { λ r. ⌜ r ≡ at-row row .len ⌝ }
-{
-    match kind {
-        0 => 1,
-        1 => 1,
-        2 => 2,
-        3 => 4,
-        4 => 8,
-        5 => 4,
-        _ => len_of(row),
-    }
+    len_in(shape_of(row))
 }
 
 pub fn place_of(row: usize) -> usize

@@ -10,15 +10,20 @@ find-requires c κs = search needs
 enum-known-found : tie.Need-enum-known-found
 enum-known-found c = search needs
 
-access-of-requires : tie.Need-access-of-requires
-access-of-requires c κs =
+shape-of-requires : tie.Need-shape-of-requires
+shape-of-requires c κs =
     let s = c .before .before .before .before in
     there (s .args .barred) (s .args .code) (s .args .index) (s .args .sub) (c .before .before .before .find .ensures) (c .before .found .given .0 .0) (c .before .found .given .1)
 
+access-in-requires : tie.Need-access-in-requires
+access-in-requires c κs = search needs
+
 returns : tie.Need-returns
 returns c =
-    let s = c .before .before .before .before .before .before in
-    barred-row (s .args .barred) (s .args .code) (s .args .index) (s .args .sub) (c .before .before .before .before .before .find .ensures) (c .before .before .before .found .given .0 .0) (c .before .access-of .result) (c .before .before .before .found .given .1) (c .before .access-of .ensures) (c .if1 .taken)
+    let f = c .before .before .before .before in
+    let s = f .before .before .before in
+    let e = c .before .before .shape-of .ensures in
+    barred-row (s .args .barred) (s .args .code) (s .args .index) (s .args .sub) (f .before .before .find .ensures) (f .found .given .0 .0) (c .before .access-in .result) (f .found .given .1) e (c .before .access-in .ensures) (c .if1 .taken)
 
 enum-told : tie.Need-enum-told
 enum-told c = search needs
@@ -28,8 +33,10 @@ enum-told-2 c = search needs
 
 returns-2 : tie.Need-returns-2
 returns-2 c =
-    let s = c .before .before .before .before .before .before in
-    open-row (s .args .barred) (s .args .code) (s .args .index) (s .args .sub) (c .before .before .before .before .before .find .ensures) (c .before .before .before .found .given .0 .0) (c .before .access-of .result) (c .before .before .before .found .given .1) (c .before .access-of .ensures) (c .if1 .left)
+    let f = c .before .before .before .before in
+    let s = f .before .before .before in
+    let e = c .before .before .shape-of .ensures in
+    open-row (s .args .barred) (s .args .code) (s .args .index) (s .args .sub) (f .before .before .find .ensures) (f .found .given .0 .0) (c .before .access-in .result) (f .found .given .1) e (c .before .access-in .ensures) (c .if1 .left)
 
 returns-3 : tie.Need-returns-3
 returns-3 c =
@@ -47,7 +54,8 @@ way-spec =
     (tie.spec
     find-requires
     enum-known-found
-    access-of-requires
+    shape-of-requires
+    access-in-requires
     returns
     enum-told
     enum-told-2

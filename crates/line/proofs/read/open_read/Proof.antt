@@ -4,7 +4,7 @@ use borrow.Author.Needs.{needs}
 use Rattle.table.specs.Row.{WO}
 use Rattle.gauge.specs.Gates.{write-only}
 use Rattle.line.specs.Answering.{replied, open-read}
-use Rattle.line.proofs.Doors.{open-there, open-key, open-reply, shut-reply}
+use Rattle.line.proofs.Doors.{open-row, open-reply, shut-reply}
 use Rattle.line.proofs.read.open_read.Statement.{statement}
 use Rattle.line.proofs.read.open_read.Tie as tie
 
@@ -16,10 +16,10 @@ enum-known-gate c = search needs
 
 open-row-requires : tie.Need-open-row-requires
 open-row-requires c κs =
-    let s = c .before .before .before .before .before .before .before in
-    let k = s .args .k in
-    let row = c .before .before .gate .given .0 .0 in
-    (s .pre .0, s .pre .1, open-there WO write-only (k .index) (k .sub) row (c .before .before .before .before .to-read .ensures) (c .before .before .gate .given .1), open-key WO write-only row k (c .before .before .before .before .to-read .ensures) (c .before .before .gate .given .1))
+    let g = c .before .before in
+    let s = g .before .before .before .before .before in
+    let o = open-row WO write-only (g .gate .given .0 .0) (g .gate .given .0 .1 .0) (s .args .k) (g .before .before .to-read .ensures) (g .gate .given .1) in
+    (s .pre .0, s .pre .1, o .0, o .1, o .2)
 
 enum-known-gate-2 : tie.Need-enum-known-gate-2
 enum-known-gate-2 c = search needs
@@ -35,7 +35,7 @@ returns c =
     let s = c .before .before .before .before .before .before .before .before .before .before in
     let p = s .args .at in
     let o = s .args .state .now in
-    c .before .before .open-row .ensures ∙ ap (replied p o) (open-reply WO write-only (s .args .k) (open-read (s .args .values .now)) (c .before .before .before .before .before .before .before .to-read .ensures) (c .before .before .before .before .before .gate .given .0 .0) (c .before .before .before .before .before .gate .given .1))
+    c .before .before .open-row .ensures ∙ ap (replied p o) (open-reply WO write-only (s .args .k) (open-read (s .args .values .now)) (c .before .before .before .before .before .before .before .to-read .ensures) (c .before .before .before .before .before .gate .given .0 .0) (c .before .before .before .before .before .gate .given .0 .1 .0) (c .before .before .before .before .before .gate .given .1))
 
 same-length-2 : tie.Need-same-length-2
 same-length-2 c = search needs

@@ -3,6 +3,7 @@ use mathlib.Core.Path.{_≡_, ap, _∙_}
 use native.Mathlib.Omega.{arith}
 use borrow.Author.Needs.{needs}
 use Rattle.table.proofs.Table.{row-rule}
+use Rattle.table.proofs.Shapes.{kind-told, len-told}
 use Rattle.sdo.specs.declared.Key.{Key}
 use Rattle.sdo.proofs.Facts.{said}
 use Rattle.sdo.proofs.ReplyLaws.{short-in, read-long}
@@ -11,11 +12,11 @@ use Rattle.line.proofs.Doors.{read-reply, read-shown}
 use Rattle.line.proofs.read.open_row.Statement.{statement}
 use Rattle.line.proofs.read.open_row.Tie as tie
 
-kind-of-requires : tie.Need-kind-of-requires
-kind-of-requires c κs = search needs
+kind-in-requires : tie.Need-kind-in-requires
+kind-in-requires c κs = search needs
 
-len-by-requires : tie.Need-len-by-requires
-len-by-requires c κs = search needs
+len-in-requires : tie.Need-len-in-requires
+len-in-requires c κs = search needs
 
 is-short-requires : tie.Need-is-short-requires
 is-short-requires c κs = search needs
@@ -24,7 +25,7 @@ short-answer-requires : tie.Need-short-answer-requires
 short-answer-requires c κs =
     let l = c .before .before .before in
     let s = l .before .before .before .before in
-    (s .pre .0, (s .pre .2, s .pre .3), l .before .kind-of .ensures, l .len-by .ensures, short-in (l .len-by .result) (said (c .before .before .is-short .ensures) (c .before .if1 .taken)))
+    (s .pre .0, (s .pre .2, s .pre .3), kind-told (s .args .row) (s .pre .2) (s .pre .4) (l .before .kind-in .ensures), len-told (s .args .row) (s .pre .2) (s .pre .4) (l .len-in .ensures), short-in (l .len-in .result) (said (c .before .before .is-short .ensures) (c .before .if1 .taken)))
 
 ended-requires : tie.Need-ended-requires
 ended-requires c κs = search needs
@@ -38,22 +39,22 @@ returns c =
     let l = i .before .before in
     let s = l .before .before .before .before in
     c .before .before .ended .ensures
-    ∙ ap (replied (s .args .at) (s .args .state .now)) (read-shown (s .args .values .now) (s .args .row) (s .pre .2) (s .pre .0) (l .len-by .ensures) (s .pre .3) (said (i .before .is-short .ensures) (i .if1 .taken)) (c .before .before .before .short-answer .ensures))
+    ∙ ap (replied (s .args .at) (s .args .state .now)) (read-shown (s .args .values .now) (s .args .row) (s .pre .2) (s .pre .0) (len-told (s .args .row) (s .pre .2) (s .pre .4) (l .len-in .ensures)) (s .pre .3) (said (i .before .is-short .ensures) (i .if1 .taken)) (c .before .before .before .short-answer .ensures))
 
 value-of-requires : tie.Need-value-of-requires
 value-of-requires c κs =
     let l = c .before .before in
     let s = l .before .before .before .before in
-    (s .pre .0, s .pre .2, ap (λ (q : Key). q .index) (s .pre .3), l .before .kind-of .ensures, l .len-by .ensures)
+    (s .pre .0, s .pre .2, ap (λ (q : Key). q .index) (s .pre .3), kind-told (s .args .row) (s .pre .2) (s .pre .4) (l .before .kind-in .ensures), len-told (s .args .row) (s .pre .2) (s .pre .4) (l .len-in .ensures))
 
 opened-requires : tie.Need-opened-requires
 opened-requires c κs = search needs
 
 opened-long-requires : tie.Need-opened-long-requires
 opened-long-requires c κs =
-    let s = c .before .before .before .before .before .before .before .before .before in
-    let m = row-rule (s .args .row) (s .pre .2) .most in
-    omega arith
+    let l = c .before .before .before .before .before in
+    let s = l .before .before .before .before in
+    omega (arith, row-rule (s .args .row) (s .pre .2) .most, len-told (s .args .row) (s .pre .2) (s .pre .4) (l .len-in .ensures))
 
 going-requires : tie.Need-going-requires
 going-requires c κs = search needs
@@ -67,14 +68,14 @@ returns-2 c =
     let l = v .before .before .before in
     let s = l .before .before .before .before in
     c .before .before .going .ensures
-    ∙ ap (replied (s .args .at) (s .args .state .now)) (read-reply (s .args .values .now) (s .args .row) (v .value-of .ensures) (l .len-by .ensures) (read-long (s .args .row) (s .pre .3) (v .value-of .result) (l .len-by .result) (said (v .before .before .is-short .ensures) (v .before .if1 .left)) (c .before .before .before .opened-long .ensures) (c .before .before .before .before .before .opened .ensures)))
+    ∙ ap (replied (s .args .at) (s .args .state .now)) (read-reply (s .args .values .now) (s .args .row) (v .value-of .ensures) (len-told (s .args .row) (s .pre .2) (s .pre .4) (l .len-in .ensures)) (read-long (s .args .row) (s .pre .3) (v .value-of .result) (l .len-in .result) (said (v .before .before .is-short .ensures) (v .before .if1 .left)) (c .before .before .before .opened-long .ensures) (c .before .before .before .before .before .opened .ensures)))
 
 pub open-row-spec : {M : Type 1} → statement M
 open-row-spec =
     tie.close
     (tie.spec
-    kind-of-requires
-    len-by-requires
+    kind-in-requires
+    len-in-requires
     is-short-requires
     short-answer-requires
     ended-requires

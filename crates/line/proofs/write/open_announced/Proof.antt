@@ -9,9 +9,6 @@ use Rattle.line.proofs.Answered.{refused-row}
 use Rattle.line.proofs.write.open_announced.Statement.{statement}
 use Rattle.line.proofs.write.open_announced.Tie as tie
 
-len-of-requires : tie.Need-len-of-requires
-len-of-requires c κs = search needs
-
 refused-requires : tie.Need-refused-requires
 refused-requires c κs = search needs
 
@@ -20,10 +17,10 @@ same-length c = search needs
 
 returns : tie.Need-returns
 returns c =
-    let s = c .before .before .before .before .before .before .before in
+    let s = c .before .before .before .before .before .before in
     let p = s .args .at in
     let o = s .args .state .now in
-    refused-row p o (s .args .row) tooLong (s .pre .2) (c .before .before .refused .ensures) ∙ ap (replied p o) (sym (announced-long (s .args .row) (s .args .n) (omega arith)))
+    refused-row p o (s .args .row) tooLong (s .pre .2) (c .before .before .refused .ensures) ∙ ap (replied p o) (sym (announced-long (s .args .row) (s .args .n) (omega (arith, s .pre .3))))
 
 refused-requires-2 : tie.Need-refused-requires-2
 refused-requires-2 c κs = search needs
@@ -33,10 +30,10 @@ same-length-2 c = search needs
 
 returns-2 : tie.Need-returns-2
 returns-2 c =
-    let s = c .before .before .before .before .before .before .before .before in
+    let s = c .before .before .before .before .before .before .before in
     let p = s .args .at in
     let o = s .args .state .now in
-    refused-row p o (s .args .row) tooShort (s .pre .2) (c .before .before .refused2 .ensures) ∙ ap (replied p o) (sym (announced-short (s .args .row) (s .args .n) (omega arith)))
+    refused-row p o (s .args .row) tooShort (s .pre .2) (c .before .before .refused2 .ensures) ∙ ap (replied p o) (sym (announced-short (s .args .row) (s .args .n) (omega (arith, s .pre .3))))
 
 open-parts-requires : tie.Need-open-parts-requires
 open-parts-requires c κs = search needs
@@ -46,16 +43,15 @@ same-length-3 c = search needs
 
 returns-3 : tie.Need-returns-3
 returns-3 c =
-    let s = c .before .before .before .before .before .before .before .before in
+    let s = c .before .before .before .before .before .before .before in
     let p = s .args .at in
     let o = s .args .state .now in
-    c .before .before .open-parts .ensures ∙ ap (replied p o) (sym (announced-right (s .args .row) (s .args .n) (omega arith)))
+    c .before .before .open-parts .ensures ∙ ap (replied p o) (sym (announced-right (s .args .row) (s .args .n) (omega (arith, s .pre .3))))
 
 pub open-announced-spec : {M : Type 1} → statement M
 open-announced-spec =
     tie.close
     (tie.spec
-    len-of-requires
     refused-requires
     same-length
     returns

@@ -2,6 +2,7 @@
 use mathlib.Core.Path.{sym, ap, _∙_}
 use borrow.Author.Needs.{needs}
 use Rattle.order.specs.Talk.{announced, unsaid}
+use Rattle.table.proofs.Shapes.{kind-told, len-told}
 use Rattle.sdo.specs.Replies.{openWriteReply}
 use Rattle.sdo.specs.declared.Opening.{Opening}
 use Rattle.sdo.specs.declared.Message.the-variants.{OpenWrite}
@@ -11,32 +12,58 @@ use Rattle.line.proofs.Answered.{kept-told, write-done}
 use Rattle.line.proofs.write.open_on.Statement.{statement}
 use Rattle.line.proofs.write.open_on.Tie as tie
 
+kind-in-requires : tie.Need-kind-in-requires
+kind-in-requires c κs = search needs
+
+len-in-requires : tie.Need-len-in-requires
+len-in-requires c κs = search needs
+
 enum-known-opening : tie.Need-enum-known-opening
 enum-known-opening c = search needs
 
 write-sized-requires : tie.Need-write-sized-requires
 write-sized-requires c κs =
-    let s = c .before .before .before .before .before .before .before .before .before .before in
-    let n = c .before .before .before .before .opening .given .0 .0 in
-    (s .pre .0, s .pre .1, s .pre .2, value-count (s .args .m .now) (s .args .k) n (s .pre .3 ∙ ap (OpenWrite (s .args .k)) (c .before .before .before .before .opening .given .1)))
+    let l = c .before .before .before .before .before .before in
+    let s = l .before .before .before .before .before .before in
+    let row = s .args .row in
+    let h = s .pre .1 in
+    let o = c .before .before .before .before .opening .given in
+    (s .pre .0, (h .0, h .1, kind-told row (h .0) (h .2) (l .before .kind-in .ensures)), len-told row (h .0) (h .2) (l .len-in .ensures), s .pre .2, value-count (s .args .m .now) (s .args .k) (o .0 .0) (s .pre .3 ∙ ap (OpenWrite (s .args .k)) (o .1)))
 
 enum-told : tie.Need-enum-told
 enum-told c = search needs
 
 write-own-requires : tie.Need-write-own-requires
-write-own-requires c κs = search needs
+write-own-requires c κs =
+    let l = c .before .before .before .before .before in
+    let s = l .before .before .before .before .before .before in
+    let row = s .args .row in
+    let h = s .pre .1 in
+    (s .pre .0, (h .0, h .1, kind-told row (h .0) (h .2) (l .before .kind-in .ensures)), len-told row (h .0) (h .2) (l .len-in .ensures), s .pre .2)
 
 enum-known-opening-2 : tie.Need-enum-known-opening-2
 enum-known-opening-2 c = search needs
 
 open-announced-requires : tie.Need-open-announced-requires
-open-announced-requires c κs = search needs
+open-announced-requires c κs =
+    let l = c .before .before .before .before in
+    let s = l .before .before .before .before .before .before in
+    let row = s .args .row in
+    let h = s .pre .1 in
+    let n = len-told row (h .0) (h .2) (l .len-in .ensures) in
+    search needs
 
 enum-told-2 : tie.Need-enum-told-2
 enum-told-2 c = search needs
 
-open-unsaid-requires : tie.Need-open-unsaid-requires
-open-unsaid-requires c κs = search needs
+open-parts-requires : tie.Need-open-parts-requires
+open-parts-requires c κs =
+    let l = c .before .before .before in
+    let s = l .before .before .before .before .before .before in
+    let row = s .args .row in
+    let h = s .pre .1 in
+    let n = len-told row (h .0) (h .2) (l .len-in .ensures) in
+    search needs
 
 same-length : tie.Need-same-length
 same-length c = search needs
@@ -50,7 +77,7 @@ same-length-3 c = search needs
 returns : tie.Need-returns
 unfolding open-write
 returns c =
-    let s = c .before .before .before .before .before .before .before .before .before .before .before .before .before .before .before .before .before in
+    let s = c .before .before .before .before .before .before .before .before .before .before .before .before .before .before .before .before .before .before .before in
     let p = s .args .at in
     let v = s .args .values .now in
     let b = s .args .block .now in
@@ -69,7 +96,7 @@ same-length-6 c = search needs
 returns-2 : tie.Need-returns-2
 unfolding open-write
 returns-2 c =
-    let s = c .before .before .before .before .before .before .before .before .before .before .before .before .before .before .before .before in
+    let s = c .before .before .before .before .before .before .before .before .before .before .before .before .before .before .before .before .before .before in
     let p = s .args .at in
     let v = s .args .values .now in
     let b = s .args .block .now in
@@ -82,7 +109,7 @@ same-length-7 c = search needs
 returns-3 : tie.Need-returns-3
 unfolding open-write
 returns-3 c =
-    let s = c .before .before .before .before .before .before .before .before .before .before .before in
+    let s = c .before .before .before .before .before .before .before .before .before .before .before .before .before in
     let p = s .args .at in
     let v = s .args .values .now in
     let b = s .args .block .now in
@@ -96,17 +123,19 @@ same-length-8 c = search needs
 returns-4 : tie.Need-returns-4
 unfolding open-write
 returns-4 c =
-    let s = c .before .before .before .before .before .before .before .before .before .before in
+    let s = c .before .before .before .before .before .before .before .before .before .before .before .before in
     let p = s .args .at in
     let v = s .args .values .now in
     let b = s .args .block .now in
     let o = s .args .state .now in
-    kept-told p v b o (openWriteReply (s .args .row) unsaid) (write-done (s .args .row) unsaid) (c .before .before .open-unsaid .ensures) ∙ ap (λ (q : Opening). answered p v b o (open-write q (s .args .m .now) (s .args .row))) (sym (c .before .before .before .before .enum-told2 .given .1))
+    kept-told p v b o (openWriteReply (s .args .row) unsaid) (write-done (s .args .row) unsaid) (c .before .before .open-parts .ensures) ∙ ap (λ (q : Opening). answered p v b o (open-write q (s .args .m .now) (s .args .row))) (sym (c .before .before .before .before .enum-told2 .given .1))
 
 pub open-on-spec : {M : Type 1} → statement M
 open-on-spec =
     tie.close
     (tie.spec
+    kind-in-requires
+    len-in-requires
     enum-known-opening
     write-sized-requires
     enum-told
@@ -114,7 +143,7 @@ open-on-spec =
     enum-known-opening-2
     open-announced-requires
     enum-told-2
-    open-unsaid-requires
+    open-parts-requires
     same-length
     same-length-2
     same-length-3

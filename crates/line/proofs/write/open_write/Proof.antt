@@ -8,7 +8,7 @@ use Rattle.sdo.specs.Eight.{answerOf}
 use Rattle.sdo.specs.Replies.{ending}
 use Rattle.line.specs.Answering.{answered, open-write}
 use Rattle.line.proofs.Answered.{told-as}
-use Rattle.line.proofs.Doors.{open-there, open-key, open-reply, shut-reply}
+use Rattle.line.proofs.Doors.{open-row, open-reply, shut-reply}
 use Rattle.line.proofs.write.open_write.Statement.{statement}
 use Rattle.line.proofs.write.open_write.Tie as tie
 
@@ -20,10 +20,9 @@ enum-known-gate c = search needs
 
 open-on-requires : tie.Need-open-on-requires
 open-on-requires c κs =
-    let s = c .before .before .before .before .before .before .before .before .before .before .before in
-    let k = s .args .k in
-    let row = c .before .before .before .before .gate .given .0 .0 in
-    (s .pre .0, (open-there RO read-only (k .index) (k .sub) row (c .before .before .before .before .before .before .to-write .ensures) (c .before .before .before .before .gate .given .1), open-key RO read-only row k (c .before .before .before .before .before .before .to-write .ensures) (c .before .before .before .before .gate .given .1)), s .pre .1, s .pre .2)
+    let g = c .before .before .before .before in
+    let s = g .before .before .before .before .before .before .before in
+    (s .pre .0, open-row RO read-only (g .gate .given .0 .0) (g .gate .given .0 .1 .0) (s .args .k) (g .before .before .to-write .ensures) (g .gate .given .1), s .pre .1, s .pre .2)
 
 enum-known-gate-2 : tie.Need-enum-known-gate-2
 enum-known-gate-2 c = search needs
@@ -47,7 +46,7 @@ returns c =
     let v = s .args .values .now in
     let b = s .args .block .now in
     let o = s .args .state .now in
-    c .before .before .before .before .before .before .open-on .ensures ∙ ap (answered p v b o) (open-reply RO read-only (s .args .k) (open-write (s .args .opening) (s .args .m .now)) (c .before .before .before .before .before .before .before .before .before .before .before .before .before .to-write .ensures) (c .before .before .before .before .before .before .before .before .before .before .before .gate .given .0 .0) (c .before .before .before .before .before .before .before .before .before .before .before .gate .given .1))
+    c .before .before .before .before .before .before .open-on .ensures ∙ ap (answered p v b o) (open-reply RO read-only (s .args .k) (open-write (s .args .opening) (s .args .m .now)) (c .before .before .before .before .before .before .before .before .before .before .before .before .before .to-write .ensures) (c .before .before .before .before .before .before .before .before .before .before .before .gate .given .0 .0) (c .before .before .before .before .before .before .before .before .before .before .before .gate .given .0 .1 .0) (c .before .before .before .before .before .before .before .before .before .before .before .gate .given .1))
 
 same-length-4 : tie.Need-same-length-4
 same-length-4 c = search needs

@@ -10,12 +10,6 @@ use Rattle.line.proofs.Answered.{refused-row, told-as}
 use Rattle.line.proofs.write.write_own.Statement.{statement}
 use Rattle.line.proofs.write.write_own.Tie as tie
 
-kind-of-requires : tie.Need-kind-of-requires
-kind-of-requires c κs = search needs
-
-len-by-requires : tie.Need-len-by-requires
-len-by-requires c κs = search needs
-
 refused-requires : tie.Need-refused-requires
 refused-requires c κs = search needs
 
@@ -24,12 +18,12 @@ same-length c = search needs
 
 returns : tie.Need-returns
 returns c =
-    let s = c .before .before .before .before .before .before .before .before .before .before .before in
+    let s = c .before .before .before .before .before .before .before .before .before in
     let p = s .args .at in
     let v = s .args .values .now in
     let b = s .args .block .now in
     let o = s .args .state .now in
-    told-as p v b o (refusal (s .args .row) tooShort) refl (refused-row p o (s .args .row) tooShort (s .pre .1 .1) (c .before .before .refused .ensures)) (sym (own-short (s .args .row) (s .args .m .now) (s .pre .2) (omega arith)))
+    told-as p v b o (refusal (s .args .row) tooShort) refl (refused-row p o (s .args .row) tooShort (s .pre .1 .1) (c .before .before .refused .ensures)) (sym (own-short (s .args .row) (s .args .m .now) (s .pre .3) (omega (arith, s .pre .2))))
 
 with-value-requires : tie.Need-with-value-requires
 with-value-requires c κs = search needs
@@ -45,19 +39,17 @@ same-length-4 c = search needs
 
 returns-2 : tie.Need-returns-2
 returns-2 c =
-    let s = c .before .before .before .before .before .before .before .before .before .before .before .before .before .before .before .before .before in
+    let s = c .before .before .before .before .before .before .before .before .before .before .before .before .before .before .before in
     let p = s .args .at in
     let v = s .args .values .now in
     let b = s .args .block .now in
     let o = s .args .state .now in
-    c .before .before .before .before .before .before .with-value .ensures ∙ ap (answered p v b o) (sym (own-right (s .args .row) (s .args .m .now) (s .pre .2) (c .before .before .before .before .before .before .before .before .before .before .before .len-by .result) (c .before .before .before .before .before .before .before .before .before .before .before .len-by .ensures) (omega arith)))
+    c .before .before .before .before .before .before .with-value .ensures ∙ ap (answered p v b o) (sym (own-right (s .args .row) (s .args .m .now) (s .pre .3) (s .args .len) (s .pre .2) (omega (arith, s .pre .2))))
 
 pub write-own-spec : {M : Type 1} → statement M
 write-own-spec =
     tie.close
     (tie.spec
-    kind-of-requires
-    len-by-requires
     refused-requires
     same-length
     returns

@@ -12,12 +12,6 @@ use Rattle.line.proofs.Answered.{refused-row, told-as}
 use Rattle.line.proofs.write.write_sized.Statement.{statement}
 use Rattle.line.proofs.write.write_sized.Tie as tie
 
-kind-of-requires : tie.Need-kind-of-requires
-kind-of-requires c κs = search needs
-
-len-by-requires : tie.Need-len-by-requires
-len-by-requires c κs = search needs
-
 refused-requires : tie.Need-refused-requires
 refused-requires c κs = search needs
 
@@ -26,12 +20,12 @@ same-length c = search needs
 
 returns : tie.Need-returns
 returns c =
-    let s = c .before .before .before .before .before .before .before .before .before .before .before in
+    let s = c .before .before .before .before .before .before .before .before .before in
     let p = s .args .at in
     let v = s .args .values .now in
     let b = s .args .block .now in
     let o = s .args .state .now in
-    told-as p v b o (refusal (s .args .row) tooLong) refl (refused-row p o (s .args .row) tooLong (s .pre .1 .1) (c .before .before .refused .ensures)) (sym (sized-long (s .args .row) (s .args .count) (take (s .args .count) (drop 4 (s .args .m .now))) (omega arith)))
+    told-as p v b o (refusal (s .args .row) tooLong) refl (refused-row p o (s .args .row) tooLong (s .pre .1 .1) (c .before .before .refused .ensures)) (sym (sized-long (s .args .row) (s .args .count) (take (s .args .count) (drop 4 (s .args .m .now))) (omega (arith, s .pre .2))))
 
 refused-requires-2 : tie.Need-refused-requires-2
 refused-requires-2 c κs = search needs
@@ -41,12 +35,12 @@ same-length-2 c = search needs
 
 returns-2 : tie.Need-returns-2
 returns-2 c =
-    let s = c .before .before .before .before .before .before .before .before .before .before .before .before in
+    let s = c .before .before .before .before .before .before .before .before .before .before in
     let p = s .args .at in
     let v = s .args .values .now in
     let b = s .args .block .now in
     let o = s .args .state .now in
-    told-as p v b o (refusal (s .args .row) tooShort) refl (refused-row p o (s .args .row) tooShort (s .pre .1 .1) (c .before .before .refused2 .ensures)) (sym (sized-short (s .args .row) (s .args .count) (take (s .args .count) (drop 4 (s .args .m .now))) (omega arith)))
+    told-as p v b o (refusal (s .args .row) tooShort) refl (refused-row p o (s .args .row) tooShort (s .pre .1 .1) (c .before .before .refused2 .ensures)) (sym (sized-short (s .args .row) (s .args .count) (take (s .args .count) (drop 4 (s .args .m .now))) (omega (arith, s .pre .2))))
 
 with-value-requires : tie.Need-with-value-requires
 with-value-requires c κs = search needs
@@ -62,20 +56,18 @@ same-length-5 c = search needs
 
 returns-3 : tie.Need-returns-3
 returns-3 c =
-    let s = c .before .before .before .before .before .before .before .before .before .before .before .before .before .before .before .before .before .before in
+    let s = c .before .before .before .before .before .before .before .before .before .before .before .before .before .before .before .before in
     let p = s .args .at in
     let v = s .args .values .now in
     let b = s .args .block .now in
     let o = s .args .state .now in
-    let same : s .args .count ≡ c .before .before .before .before .before .before .before .before .before .before .before .before .len-by .result = omega arith in
-    c .before .before .before .before .before .before .with-value .ensures ∙ ap (λ (n : ℕ). answered p v b o (valueReply (s .args .row) n (s .args .m .now))) (sym same) ∙ ap (answered p v b o) (sym (sized-right (s .args .row) (s .args .m .now) (s .pre .2) (s .args .count) (same ∙ c .before .before .before .before .before .before .before .before .before .before .before .before .len-by .ensures) (s .pre .3)))
+    let same : s .args .count ≡ s .args .len = omega (arith, s .pre .2) in
+    c .before .before .before .before .before .before .with-value .ensures ∙ ap (λ (n : ℕ). answered p v b o (valueReply (s .args .row) n (s .args .m .now))) (sym same) ∙ ap (answered p v b o) (sym (sized-right (s .args .row) (s .args .m .now) (s .pre .3) (s .args .count) (same ∙ s .pre .2) (s .pre .4)))
 
 pub write-sized-spec : {M : Type 1} → statement M
 write-sized-spec =
     tie.close
     (tie.spec
-    kind-of-requires
-    len-by-requires
     refused-requires
     same-length
     returns

@@ -1,17 +1,17 @@
--- `table::field::access_of`: the column is the field `access` of each row. Assumes nothing.
+-- `table::field::access_of`: the row's shape has its field `access`. Assumes nothing.
 use borrow.Author.Needs.{needs}
-use lib.ListN.{List·getD-map}
-use Rattle.table.specs.Row.{Row, no-row}
-use Rattle.table.specs.Rows.{rows}
+use Rattle.table.proofs.Shapes.{access-told}
 use Rattle.table.proofs.field.access_of.Statement.{statement}
 use Rattle.table.proofs.field.access_of.Tie as tie
 
-array-read-result : tie.Need-array-read-result
-array-read-result c = search needs
+shape-of-requires : tie.Need-shape-of-requires
+shape-of-requires c κs = search needs
+
+access-in-requires : tie.Need-access-in-requires
+access-in-requires c κs = search needs
 
 returns : tie.Need-returns
-unfolding rows
-returns c = List·getD-map (λ (r : Row). r .access) rows (c .args .row) no-row
+returns c = access-told (c .before .before .args .row) (c .before .before .pre) (c .before .shape-of .ensures) (c .access-in .ensures)
 
 pub access-of-spec : {M : Type 1} → statement M
-access-of-spec = tie.close (tie.spec array-read-result returns)
+access-of-spec = tie.close (tie.spec shape-of-requires access-in-requires returns)

@@ -1,17 +1,17 @@
--- `table::field::kind_of`: the column is the field `kind` of each row. Assumes nothing.
+-- `table::field::kind_of`: the row's shape has its field `kind`. Assumes nothing.
 use borrow.Author.Needs.{needs}
-use lib.ListN.{List·getD-map}
-use Rattle.table.specs.Row.{Row, no-row}
-use Rattle.table.specs.Rows.{rows}
+use Rattle.table.proofs.Shapes.{kind-told}
 use Rattle.table.proofs.field.kind_of.Statement.{statement}
 use Rattle.table.proofs.field.kind_of.Tie as tie
 
-array-read-result : tie.Need-array-read-result
-array-read-result c = search needs
+shape-of-requires : tie.Need-shape-of-requires
+shape-of-requires c κs = search needs
+
+kind-in-requires : tie.Need-kind-in-requires
+kind-in-requires c κs = search needs
 
 returns : tie.Need-returns
-unfolding rows
-returns c = List·getD-map (λ (r : Row). r .kind) rows (c .args .row) no-row
+returns c = kind-told (c .before .before .args .row) (c .before .before .pre) (c .before .shape-of .ensures) (c .kind-in .ensures)
 
 pub kind-of-spec : {M : Type 1} → statement M
-kind-of-spec = tie.close (tie.spec array-read-result returns)
+kind-of-spec = tie.close (tie.spec shape-of-requires kind-in-requires returns)
