@@ -45,15 +45,15 @@ fn settings_at(values: &[u8], at: usize) -> Point
 }
 
 // A sample that is not valid turns both points off: no settings are read.
-fn next_trips(values: &[u8], was: Trips, p: f32, valid: u8) -> Trips
+fn next_trips(values: &[u8], was: Trips, pressure: f32, valid: u8) -> Trips
     requires { ⌜ length (now values) ≡ 1024 ⌝ }
-    ensures { λ r. ⌜ r ≡ trips-after (now (values .entry)) was p valid ⌝ }
+    ensures { λ r. ⌜ r ≡ trips-after (now (values .entry)) was pressure valid ⌝ }
 {
-    if trip::usable(p, valid) {
+    if trip::usable(pressure, valid) {
         let first = was.one;
         let second = was.two;
-        let one = trip::next(settings_at(values, place::SETTINGS_1), first, p);
-        let two = trip::next(settings_at(values, place::SETTINGS_2), second, p);
+        let one = trip::next(settings_at(values, place::SETTINGS_1), first, pressure);
+        let two = trip::next(settings_at(values, place::SETTINGS_2), second, pressure);
         return Trips { one, two };
     }
     let off = On {
