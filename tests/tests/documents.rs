@@ -240,10 +240,13 @@ fn abort_codes_of_the_page() {
         .for_each(|code| assert!(tried.contains(code), "{code:08X} has no example"));
 }
 
-/// Every file of Rattle below a crate's src/ and specs/.
+/// Every file of Rattle below a library's src/ and specs/; programs are not the board.
 fn sources(folder: &std::path::Path, found: &mut Vec<std::path::PathBuf>) {
     for item in std::fs::read_dir(folder).unwrap() {
         let path = item.unwrap().path();
+        if path.join("src/main.rt").exists() {
+            continue;
+        }
         let name = path.file_name().unwrap().to_str().unwrap().to_string();
         if path.is_dir() && name != "proofs" && name != "must-fail" {
             sources(&path, found);

@@ -181,9 +181,17 @@ fn same_block() {
     );
 }
 
+// Power-up, whatever the values held: defaults, then the NV entries of the block.
+fn powers_up() {
+    let mut values = [0x5Au8; 1024];
+    gauge::power::fill(&mut values, &some_block());
+    compare_values(b"power-up: what the block has", &values, &some_values());
+}
+
 pub fn back() {
     loads_defaults();
     comes_back();
     others_stay();
     same_block();
+    powers_up();
 }
