@@ -2,7 +2,6 @@
 pub mod image;
 
 use table::place;
-use trip::On;
 use trip::Point;
 use trip::Side;
 use trip::Trips;
@@ -56,11 +55,7 @@ fn next_trips(values: &[u8], was: Trips, pressure: f32, valid: u8) -> Trips
         let two = trip::next(settings_at(values, place::SETTINGS_2), second, pressure);
         return Trips { one, two };
     }
-    let off = On {
-        high: false,
-        low: false,
-    };
-    Trips { one: off, two: off }
+    trip::all_off()
 }
 
 fn put_reading(values: &mut [u8], p: f32, valid: u8)

@@ -5,7 +5,6 @@ use native.Mathlib.Nat.{add-zero}
 use mathlib.Core.Path.{_≡_, refl, sym, ap, ap₂, _∙_}
 use mathlib.Core.Bool.{Bool, true, false, _&&_}
 use mathlib.Core.List.{List, [], _∷_, _++_}
-use lib.Dec.{leb}
 use lib.ListN.{length, take, drop, getD, replicate, length-take, length-drop}
 use lib.Seq.{getD-drop}
 use Rattle.wire.specs.Little.{little}
@@ -20,10 +19,6 @@ said p q = sym p ∙ q
 pub and-first : (a b : Bool) → a ≡ true → b ≡ (a && b)
 and-first true b e = refl
 and-first false b e = cc
-
-pub and-right : (a b : Bool) → (a && b) ≡ true → b ≡ true
-and-right true b e = e
-and-right false b e = cc
 
 pub above-four : {A : Type 0} (n : ℕ) (a₀ a₁ a₂ a₃ a₄ above : A) → 5 ≤ n → choice n a₀ a₁ a₂ a₃ a₄ above ≡ above
 unfolding choice

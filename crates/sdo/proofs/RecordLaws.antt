@@ -13,16 +13,13 @@ use Rattle.order.specs.Talk.{Request, openRead, nextPart, expedited, openWrite,
 use Rattle.table.specs.Rows.{row-count, at-row}
 use Rattle.table.specs.Find.{find-row}
 use Rattle.table.specs.declared.Found.the-variants.{At}
+use Rattle.table.proofs.Walks.{and-true}
 use Rattle.table.proofs.Table.{row-rule, find-at, row-found}
 use Rattle.sdo.specs.declared.Key.{Key}
 use Rattle.sdo.specs.declared.Direction.{Direction}
 use Rattle.sdo.specs.declared.Direction.the-variants.{Neither, Reads, Writes}
 use Rattle.sdo.specs.declared.Transfer.{Transfer}
 use Rattle.sdo.specs.Records.{allZero, keyAt, numberOf, rowNumber, allows, RowOf, counts, pending, view, base, lay}
-
-and-true : (a b : Bool) → (a && b) ≡ true → (a ≡ true) × (b ≡ true)
-and-true true b e = (refl, e)
-and-true false b e = (e, cc)
 
 -- a transfer of an entry whose row allows it, of the row's length, with its place inside
 pub record Fits (d : Direction) (row : ℕ) (k : Key) (len place : ℕ) : Type 0 where

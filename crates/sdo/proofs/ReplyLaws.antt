@@ -9,6 +9,7 @@ use lib.ListN.{length, take, drop, getD, replicate, length-take}
 use lib.Seq.{take-take}
 use borrow.Author.Tests.{lt-ltb, le-ltb, lt-leb, le-leb, leb-true}
 use Rattle.wire.proofs.SpliceLaws.{part-length, part-same}
+use Rattle.wire.proofs.Writes.{and-left, and-right}
 use Rattle.table.specs.Rows.{at-row}
 use Rattle.table.specs.Rule.{pick}
 use Rattle.order.specs.Talk.{announced, unsaid, own, opened, partGiven, writeOpened, partTaken, wrongToggle, noTransfer}
@@ -23,11 +24,6 @@ use Rattle.sdo.specs.Eight.{keyOf, bit, choice, openingBy, messageOf, as
 use Rattle.sdo.specs.Lines.{short}
 use Rattle.sdo.specs.Records.{keyAt, counts}
 use Rattle.sdo.specs.Replies.{ending, going, committing, refusal, is-reading, turned, partBytes, givenReply, nextPartReply, is-writing, grown, takenReply, sendPartReply, openedRecord, filled, openReadReply, openWriteBy, openWriteReply, valueReply, expeditedReply}
-use Rattle.sdo.proofs.Facts.{and-right}
-
-and-left : (a b : Bool) → (a && b) ≡ true → a ≡ true
-and-left true b e = refl
-and-left false b e = e
 
 pub short-in : (n : ℕ) → short n ≡ true → (1 ≤ n) × (n ≤ 4)
 short-in n e = (leb-true 1 n (and-left (leb 1 n) (leb n 4) e), leb-true n 4 (and-right (leb 1 n) (leb n 4) e))

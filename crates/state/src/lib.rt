@@ -156,11 +156,7 @@ pub fn drop_all(state: &mut [u8])
     requires { ⌜ length (now state) ≡ 256 ⌝ }
     ensures { λ _. ⌜ now (state .exit) ≡ dropped (now (state .entry)) ⌝ }
 {
-    let off = On {
-        high: false,
-        low: false,
-    };
     clear_record(state, 0);
     clear_record(state, 96);
-    put_trips(state, Trips { one: off, two: off });
+    put_trips(state, trip::all_off());
 }

@@ -9,6 +9,7 @@ use mathlib.Core.Path.{_≡_, refl}
 use mathlib.Core.Logic.{_⊎_, inl, inr}
 use borrow.Author.Tests.{ltb-true, ltb-false}
 use lib.ListN.{length, getD}
+use Rattle.wire.proofs.Writes.{and-left, and-right}
 use Rattle.table.specs.Walk.{both, all, every, linked, chain}
 
 pub lt-or-ge : (m n : ℕ) → (m < n) ⊎ (n ≤ m)
@@ -68,5 +69,4 @@ module _ {A : Type 0} where
     chain-far (x ∷ xs) t (suc j) (suc k) h l = chain-far xs (tail-chain x xs t) j k (le-of-suc-le-suc h) (le-of-suc-le-suc l)
 
 pub and-true : (a b : Bool) → (a && b) ≡ true → (a ≡ true) × (b ≡ true)
-and-true true b e = (refl, e)
-and-true false b e = let z : _≡_ {A = ℕ} 0 1 = cc in absurd (omega arith)
+and-true a b h = (and-left a b h, and-right a b h)

@@ -1,23 +1,51 @@
--- The test of a pressure, as code has it: the flag, not negative, and below plus infinity. Assumes nothing.
-use mathlib.Core.Path.{_≡_, refl, sym}
-use mathlib.Core.Bool.{Bool, true, false, not, _&&_}
-use Prim.Native.Nat.{ℕ}
-use lib.Dec.{eqb}
-use lib.Ieee.{Float, nan, inf, fin, binary32, ofBits, div, lt, isNan}
+-- The test of a pressure, as code has it: the flag, not negative, and no difference to itself. Assumes nothing.
+use mathlib.Core.Path.{_≡_, refl, sym, ap, _∙_}
+use mathlib.Core.Bool.{Bool, true, false, cond, not, _&&_, _||_, Bool·beq}
+use Prim.Native.Nat.{ℕ, _-_, _*_, _<_}
+use native.Mathlib.Nat.{zero-mul, mul-pos, sub-self, eq-of-mul-eq-mul-right}
+use native.Mathlib.Omega.{arith}
+use lib.Dec.{eqb, ltb, lit<}
+use lib.Ieee.{Float, nan, inf, fin, binary32, ofBits, up, down, round, sum, add, sub, neg, lt, eq, isNan}
+use borrow.Author.Tests.{eq-eqb, le-ltb}
+use lib.Ieee.Exact.{HasValue, round-exact}
+use lib.Ieee.Fits.{down-pos}
 use Rattle.trip.specs.Trip.{finite, usable-pressure}
 
--- 1.0 / 0.0
-pub made-inf : div binary32 (ofBits binary32 0x3f800000) (ofBits binary32 0) ≡ inf false
-unfolding div ofBits
-made-inf = refl
+either : (t : Bool) → t || true ≡ true
+either true = refl
+either false = refl
 
--- below plus infinity and not negative: finite
-below-inf : (p : Float) → lt p (ofBits binary32 0) ≡ false → lt p (inf false) ≡ finite p
-unfolding lt finite ofBits
-below-inf nan h = refl
-below-inf (inf true) h = h
-below-inf (inf false) h = refl
-below-inf (fin s m e) h = refl
+-- a number that is 0 over something is level with 0
+no-value : (x : Float) (s : Bool) (c : ℕ) → 0 < c → HasValue x s 0 c → eq x (ofBits binary32 0) ≡ true
+unfolding eq ofBits
+no-value nan s c p v = absurd v
+no-value (inf t) s c p v = absurd v
+no-value (fin t m e) s c p v =
+    let h : m * up e ≡ 0 = eq-of-mul-eq-mul-right c p (m * up e) 0 (v .1 ∙ zero-mul (down e) ∙ sym (zero-mul c)) in
+    let z : eqb (m * up e * 1) (0 * 1 * down e) ≡ true = eq-eqb (m * up e * 1) (0 * 1 * down e) (ap (λ (n : ℕ). n * 1) h ∙ sym (zero-mul (down e))) in
+    let w : eqb (m * up e * 1) 0 ≡ true = eq-eqb (m * up e * 1) 0 (ap (λ (n : ℕ). n * 1) h) in
+    rw (z, w) (either (Bool·beq t false))
+
+-- 0 over something rounds to no value
+rounded : (s : Bool) (c : ℕ) → 0 < c → HasValue (round binary32 s 0 c) s 0 c
+rounded s c p = round-exact binary32 s 0 c 0 0 p (lit< tt) (lit< tt) (sym (zero-mul c))
+
+-- a sum of opposites is level with 0
+no-sum : (s t b : Bool) (n c : ℕ) → 0 < c → b ≡ false → n ≡ 0 → eq (cond b (round binary32 t n c) (round binary32 (s && b) n c)) (ofBits binary32 0) ≡ true
+no-sum s t b n c p e h = rw (e, h) (no-value (round binary32 (s && false) 0 c) (s && false) c p (rounded (s && false) c p))
+
+opposites : (s : Bool) (a c : ℕ) → 0 < c → eq (sum binary32 s a (not s) a c) (ofBits binary32 0) ≡ true
+unfolding sum
+opposites true a c p = no-sum true false (ltb a a) (a - a) c p (le-ltb a a (omega arith)) (sub-self a)
+opposites false a c p = no-sum false true (ltb a a) (a - a) c p (le-ltb a a (omega arith)) (sub-self a)
+
+-- the difference to itself is 0 where p is finite, and NaN elsewhere
+own-difference : (p : Float) → eq (sub binary32 p p) (ofBits binary32 0) ≡ finite p
+unfolding sub add neg eq finite
+own-difference nan = refl
+own-difference (inf true) = refl
+own-difference (inf false) = refl
+own-difference (fin s m e) = opposites s (m * up e * down e) (down e * down e) (mul-pos (down-pos e) (down-pos e))
 
 and-no : (b : Bool) → b && false ≡ false
 and-no true = refl
@@ -32,9 +60,9 @@ module _ (p : Float) (valid : ℕ) where
   unfolding usable-pressure
   negative e = simp e (and-no (not (eqb valid 0)))
 
-  pub rest : eqb valid 0 ≡ false → lt p (ofBits binary32 0) ≡ false → usable-pressure p valid ≡ lt p (inf false)
+  pub rest : eqb valid 0 ≡ false → lt p (ofBits binary32 0) ≡ false → usable-pressure p valid ≡ eq (sub binary32 p p) (ofBits binary32 0)
   unfolding usable-pressure
-  rest e h = simp (e, h) (sym (below-inf p h))
+  rest e h = simp (e, h) (sym (own-difference p))
 
   opened : usable-pressure p valid ≡ true → not (eqb valid 0) && (not (lt p (ofBits binary32 0)) && finite p) ≡ true
   unfolding usable-pressure

@@ -1,6 +1,6 @@
 // Trip sides and points by value: how a sample turns them on and off.
 ghost use mathlib.Core.Path.{_≡_};
-ghost use Rattle.trip.specs.Trip.{settled, low-next, high-next, point-next, usable-pressure};
+ghost use Rattle.trip.specs.Trip.{settled, low-next, high-next, point-next, all-off, usable-pressure};
 
 pub struct Side {
     pub level: f32,
@@ -64,7 +64,17 @@ pub fn next(point: Point, was: On, p: f32) -> On
     On { high, low }
 }
 
-// A sample counts as valid: its flag is not 0, and the pressure is finite and not negative.
+pub fn all_off() -> Trips
+    ensures { λ r. ⌜ r ≡ all-off ⌝ }
+{
+    let off = On {
+        high: false,
+        low: false,
+    };
+    Trips { one: off, two: off }
+}
+
+// A sample counts as valid: its flag is not 0, and the pressure is not negative and finite: what is not has no difference to itself.
 pub fn usable(p: f32, valid: u8) -> bool
     ensures { λ r. ⌜ r ≡ usable-pressure p valid ⌝ }
 {
@@ -74,5 +84,5 @@ pub fn usable(p: f32, valid: u8) -> bool
     if p < 0.0 {
         return false;
     }
-    p < 1.0 / 0.0
+    p - p == 0.0
 }

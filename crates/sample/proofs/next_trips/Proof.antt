@@ -21,6 +21,9 @@ settings-at-requires-2 c κs = search needs
 next-requires-2 : tie.Need-next-requires-2
 next-requires-2 c κs = search needs
 
+all-off-requires : tie.Need-all-off-requires
+all-off-requires c κs = search needs
+
 returns : tie.Need-returns
 unfolding trips-after point-after
 returns c =
@@ -29,7 +32,7 @@ returns c =
 
 returns-2 : tie.Need-returns-2
 unfolding trips-after point-after off
-returns-2 c = simp (sym (c .before .usable .ensures) ∙ c .if1 .left)
+returns-2 c = let at-test = c .before in c .all-off .ensures ∙ simp (sym (at-test .before .usable .ensures) ∙ at-test .if1 .left)
 
 pub next-trips-spec : {M : Type 1} → statement M
 next-trips-spec =
@@ -41,4 +44,5 @@ next-trips-spec =
     settings-at-requires-2
     next-requires-2
     returns
+    all-off-requires
     returns-2)

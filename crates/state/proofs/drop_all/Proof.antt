@@ -10,6 +10,9 @@ clear-record-requires c κs = search needs
 clear-record-requires-2 : tie.Need-clear-record-requires-2
 clear-record-requires-2 c κs = search needs
 
+all-off-requires : tie.Need-all-off-requires
+all-off-requires c κs = search needs
+
 put-trips-requires : tie.Need-put-trips-requires
 put-trips-requires c κs = search needs
 
@@ -18,9 +21,11 @@ same-length c = search needs
 
 returns : tie.Need-returns
 unfolding dropped
-returns c = rw (c .before .before .put-trips .ensures, c .before .before .before .before .before .before .clear-record2 .ensures, c .before .before .before .before .before .before .before .before .before .before .clear-record .ensures)
+returns c =
+    let off = c .before .before .before in
+    rw (c .before .before .put-trips .ensures, off .all-off .ensures, off .before .before .before .before .clear-record2 .ensures, off .before .before .before .before .before .before .before .before .clear-record .ensures)
 
 pub drop-all-spec : {M : Type 1} → statement M
 drop-all-spec =
     tie.close
-    (tie.spec clear-record-requires clear-record-requires-2 put-trips-requires same-length returns)
+    (tie.spec clear-record-requires clear-record-requires-2 all-off-requires put-trips-requires same-length returns)

@@ -1,8 +1,7 @@
--- `trip::usable`: below plus infinity and not negative is finite and not negative. Assumes nothing.
-use mathlib.Core.Path.{sym, ap, _∙_}
-use lib.Ieee.{lt}
+-- `trip::usable`: one law for each return. Assumes nothing.
+use mathlib.Core.Path.{sym}
 use borrow.Author.Tests.{ne-eqb}
-use Rattle.trip.proofs.Pressure.{made-inf, no-flag, negative, rest}
+use Rattle.trip.proofs.Pressure.{no-flag, negative, rest}
 use Rattle.trip.proofs.usable.Statement.{statement}
 use Rattle.trip.proofs.usable.Tie as tie
 
@@ -15,7 +14,7 @@ returns-2 c = sym (negative (c .before .before .args .p) (c .before .before .arg
 returns-3 : tie.Need-returns-3
 returns-3 c =
     let a = c .before .before .args in
-    ap (lt (a .p)) made-inf ∙ sym (rest (a .p) (a .valid) (ne-eqb (a .valid) 0 (c .before .if1 .left)) (c .if2 .left))
+    sym (rest (a .p) (a .valid) (ne-eqb (a .valid) 0 (c .before .if1 .left)) (c .if2 .left))
 
 pub usable-spec : {M : Type 1} → statement M
 usable-spec = tie.close (tie.spec returns returns-2 returns-3)
