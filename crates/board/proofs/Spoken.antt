@@ -8,21 +8,19 @@ use native.Mathlib.Omega.{arith}
 use lib.Dec.{ltb, leb}
 use lib.ListN.{length, take, drop}
 use borrow.Author.Tests.{ltb-false, leb-true, ne-eqb}
-use Rattle.order.specs.Talk.{Said, announced, unsaid, own, openRead, openWrite, expedited, value, Sizes, sizes, closed, refused, Outcome, stored, restarted, declined}
+use Rattle.order.specs.Talk.{Said, announced, unsaid, own, openRead, openWrite, expedited, Sizes, sizes, closed, refused, Outcome, stored, restarted, declined}
 use Rattle.order.specs.Gauge.{tooLong, tooShort, narrowed, counted, say}
 use Rattle.table.specs.Row.{RO, WO}
 use Rattle.table.specs.Rows.{at-row, row-count}
-use Rattle.table.specs.Columns.{shape}
 use Rattle.table.specs.Find.{find-row}
 use Rattle.table.specs.Rule.{pick}
 use Rattle.table.specs.declared.Found.the-variants.{At}
 use Rattle.table.proofs.Table.{find-at, row-found}
 use Rattle.trip.specs.Trip.{all-off}
-use Rattle.gauge.specs.Gates.{gate, read-gate, write-gate, read-only, write-only, sizes-of, smallest, largest}
+use Rattle.gate.specs.Gates.{Way, to-row, no-way, gate, read-gate, write-gate, read-only, write-only, sizes-of, smallest, largest}
+use Rattle.gate.proofs.GateLaws.{Opened, opened}
 use Rattle.gauge.specs.Memory.{Memory, Store, memory-of}
 use Rattle.gauge.specs.Whole.{value-of, read-through, read-whole, commit-row, with-trips, commit-through, commit-whole, write-sizes}
-use Rattle.gauge.specs.declared.gate.Gate.{Gate}
-use Rattle.gauge.specs.declared.gate.Gate.the-variants.{Open, Shut}
 use Rattle.gauge.proofs.ValueLaws.{value-length}
 use Rattle.sdo.specs.declared.Key.{Key}
 use Rattle.sdo.specs.declared.Direction.{Direction}
@@ -41,7 +39,6 @@ use Rattle.sdo.proofs.ReplyLaws.{ask-is}
 use Rattle.sdo.proofs.SpeakLaws.{speak-next-part, speak-send-part, speak-give-up, speak-unknown, speak-read-denied, speak-write-closed, speak-expedited-closed, speak-open-read, speak-open-write, speak-expedited}
 use Rattle.line.specs.Answering.{through, open-read, open-write, reply-to, Acted, act-by}
 use Rattle.line.specs.Answering as line
-use Rattle.line.proofs.Doors.{Opened, opened}
 use Rattle.board.specs.Gauge.{bag552}
 
 -- what is left, as `speak` says it, with the trip states: "trips off" after a device reset
@@ -140,30 +137,30 @@ opening-writable Own m row h a = expedited-writable row h a own (take 4 (drop 4 
 opening-writable (Announced n) m row h a = open-writable row (announced n)
 opening-writable Unsaid m row h a = open-writable row unsaid
 
-through-writable : (barred code : ℕ) (k : Key) (f : ℕ → Reply) → ((row s : ℕ) → Opened barred (k .index) (k .sub) row s → Writable ((f row) .act))
+through-writable : (barred code : ℕ) (k : Key) (f : ℕ → Reply) → ((row : ℕ) → Opened barred (k .index) (k .sub) row → Writable ((f row) .act))
     → Writable ((through (gate barred code (find-row (k .index) (k .sub))) k f) .act)
 unfolding through
 through-writable barred code k f h = go (gate barred code (find-row (k .index) (k .sub))) refl
   where
-    go : (g : Gate) → gate barred code (find-row (k .index) (k .sub)) ≡ g → Writable ((through g k f) .act)
-    go (Open row s) e = h row s (opened barred code (k .index) (k .sub) row s (find-row (k .index) (k .sub)) refl e)
-    go (Shut c) e = tt
+    go : (w : Way) → gate barred code (find-row (k .index) (k .sub)) ≡ w → Writable ((through w k f) .act)
+    go (to-row row) e = h row (opened barred code (k .index) (k .sub) row (find-row (k .index) (k .sub)) refl e)
+    go (no-way c) e = tt
 
 -- the reply to any message
 pub reply-writable : (said : Message) (m values : List ℕ) (t : Transfer) → Writable ((reply-to said m values t) .act)
 unfolding reply-to open-read
 reply-writable (SendPart u n last) m values t = part-writable t u (take n (drop 1 m)) last
 reply-writable (OpenWrite k o) m values t =
-    through-writable RO read-only k (open-write o m) (λ row s d. opening-writable o m row (find-at (k .index) (k .sub) row (d .found) .there) (d .allowed))
+    through-writable RO read-only k (open-write o m) (λ row d. opening-writable o m row (find-at (k .index) (k .sub) row (d .found) .there) (d .allowed))
 reply-writable (OpenRead k) m values t =
-    through-writable WO write-only k (open-read values) (λ row s o. read-writable row (filled (value-of (at-row row) values)) (at-row row .len))
+    through-writable WO write-only k (open-read values) (λ row o. read-writable row (filled (value-of (at-row row) values)) (at-row row .len))
 reply-writable (NextPart u) m values t = next-writable t u
 reply-writable GiveUp m values t = tt
 reply-writable Unknown m values t = tt
 
 -- ---- the reply's act on the memory is its act on the gauge
 
-open-gate : (row : ℕ) → row < row-count → (at-row row .access ≡ RO → ⊥) → write-gate (find-row (at-row row .index) (at-row row .sub)) ≡ Open row (shape (at-row row))
+open-gate : (row : ℕ) → row < row-count → (at-row row .access ≡ RO → ⊥) → write-gate (find-row (at-row row .index) (at-row row .sub)) ≡ to-row row
 unfolding gate
 open-gate row h a =
     rw (row-found (at-row row .index) (at-row row .sub) row (record { there = h; index-is = refl; sub-is = refl }), ne-eqb (at-row row .access) RO a)
@@ -180,7 +177,7 @@ module _ (g : Store) where
   unfolding actedBy act-by spoken-by commit-whole commit-through
   act-agree r Done w = refl
   act-agree r (Commit row len) w =
-      ap (λ (d : Gate). concluded bag552 g (keyAt row) (r .eight) (commit-through d g (take len (r .next .held)))) (open-gate row (w .0) (w .1))
+      ap (λ (w : Way). concluded bag552 g (keyAt row) (r .eight) (commit-through w g (take len (r .next .held)))) (open-gate row (w .0) (w .1))
       ∙ concluded-agree row (r .eight) (commit-row (at-row row) (take len (r .next .held)) (g .memory))
 
   -- ---- by what the message says
@@ -189,45 +186,45 @@ module _ (g : Store) where
     abbrev Agrees : Reply → Type 0
     Agrees r = speak bag552 g t m ≡ actedBy bag552 g r (r .act)
 
-    by-gate : (barred code : ℕ) (k : Key) (f : ℕ → Reply) → ((c : ℕ) → gate barred code (find-row (k .index) (k .sub)) ≡ Shut c → Agrees (ending (answerOf (refused k c))))
-        → ((row s : ℕ) → gate barred code (find-row (k .index) (k .sub)) ≡ Open row s → find-row (k .index) (k .sub) ≡ At row → Agrees (f row))
+    by-gate : (barred code : ℕ) (k : Key) (f : ℕ → Reply) → ((c : ℕ) → gate barred code (find-row (k .index) (k .sub)) ≡ no-way c → Agrees (ending (answerOf (refused k c))))
+        → ((row : ℕ) → gate barred code (find-row (k .index) (k .sub)) ≡ to-row row → find-row (k .index) (k .sub) ≡ At row → Agrees (f row))
         → Agrees (through (gate barred code (find-row (k .index) (k .sub))) k f)
     unfolding through
     by-gate barred code k f shut open-row = go (gate barred code (find-row (k .index) (k .sub))) refl
       where
-        go : (d : Gate) → gate barred code (find-row (k .index) (k .sub)) ≡ d → Agrees (through d k f)
-        go (Open row s) e = open-row row s e (opened barred code (k .index) (k .sub) row s (find-row (k .index) (k .sub)) refl e .found)
-        go (Shut c) e = shut c e
+        go : (w : Way) → gate barred code (find-row (k .index) (k .sub)) ≡ w → Agrees (through w k f)
+        go (to-row row) e = open-row row e (opened barred code (k .index) (k .sub) row (find-row (k .index) (k .sub)) refl e .found)
+        go (no-way c) e = shut c e
 
-    closed-by : (k : Key) (c : ℕ) → write-gate (find-row (k .index) (k .sub)) ≡ Shut c → write-sizes (k .index) (k .sub) ≡ closed c
+    closed-by : (k : Key) (c : ℕ) → write-gate (find-row (k .index) (k .sub)) ≡ no-way c → write-sizes (k .index) (k .sub) ≡ closed c
     unfolding write-sizes sizes-of
     closed-by k c e = ap sizes-of e
 
-    sized-by : (k : Key) (row s : ℕ) → write-gate (find-row (k .index) (k .sub)) ≡ Open row s → write-sizes (k .index) (k .sub) ≡ sizes (at-row row .len) (at-row row .len)
+    sized-by : (k : Key) (row : ℕ) → write-gate (find-row (k .index) (k .sub)) ≡ to-row row → write-sizes (k .index) (k .sub) ≡ sizes (at-row row .len) (at-row row .len)
     unfolding write-sizes sizes-of smallest largest
-    sized-by k row s e = ap sizes-of e
+    sized-by k row e = ap sizes-of e
 
     whole-write : (k : Key) (said : Said) (bytes : List ℕ) (f : ℕ → Reply) → ((row : ℕ) → f row ≡ expeditedReply row said bytes) → askOf m ≡ expedited k said bytes
         → Agrees (through (write-gate (find-row (k .index) (k .sub))) k f)
     whole-write k said bytes f is ask =
         by-gate RO read-only k f (λ c e. speak-expedited-closed bag552 g t m k said bytes c ask (closed-by k c e))
-        (λ row s e found. subst Agrees (sym (is row)) (speak-expedited bag552 g t m k row found said bytes ask (sized-by k row s e)))
+        (λ row e found. subst Agrees (sym (is row)) (speak-expedited bag552 g t m k row found said bytes ask (sized-by k row e)))
 
     parted-write : (k : Key) (n : Option ℕ) (f : ℕ → Reply) → ((row : ℕ) → f row ≡ openWriteReply row (say n)) → askOf m ≡ openWrite k n []
         → Agrees (through (write-gate (find-row (k .index) (k .sub))) k f)
     parted-write k n f is ask =
         by-gate RO read-only k f (λ c e. speak-write-closed bag552 g t m k n [] c ask (closed-by k c e))
-        (λ row s e found. subst Agrees (sym (is row)) (speak-open-write bag552 g t m k row found n ask (sized-by k row s e)))
+        (λ row e found. subst Agrees (sym (is row)) (speak-open-write bag552 g t m k row found n ask (sized-by k row e)))
 
     whole-read : (k : Key) → askOf m ≡ openRead k → Agrees (through (read-gate (find-row (k .index) (k .sub))) k (open-read (g .memory .values)))
     unfolding read-whole read-through open-read
     whole-read k ask =
         by-gate WO write-only k (open-read (g .memory .values))
-        (λ c e. speak-read-denied bag552 g t m k c ask (ap (λ (d : Gate). read-through d (g .memory .values)) e))
-        (λ row s e found.
+        (λ c e. speak-read-denied bag552 g t m k c ask (ap (λ (w : Way). read-through w (g .memory .values)) e))
+        (λ row e found.
         let n = value-length row (find-at (k .index) (k .sub) row found .there) (g .memory .values) sized in
         subst (λ (l : ℕ). Agrees (openReadReply row (filled (value-of (at-row row) (g .memory .values))) l)) n
-        (speak-open-read bag552 g t m k row found (value-of (at-row row) (g .memory .values)) ask (ap (λ (d : Gate). read-through d (g .memory .values)) e)))
+        (speak-open-read bag552 g t m k row found (value-of (at-row row) (g .memory .values)) ask (ap (λ (w : Way). read-through w (g .memory .values)) e)))
 
     agrees : (said : Message) → messageOf m ≡ said → (said ≡ GiveUp → ⊥) → Agrees (reply-to said m (g .memory .values) t)
     unfolding asked reply-to open-write

@@ -11,7 +11,6 @@ use borrow.Author.Tests.{eqb-false, eq-eqb, ne-eqb, le-leb}
 use Rattle.order.specs.Talk.{Read, value, denied, Sizes, sizes, closed, Outcome, stored, restarted, declined}
 use Rattle.table.specs.Row.{Row, RO, WO, CARD, COMMAND}
 use Rattle.table.specs.Rows.{row-count, at-row}
-use Rattle.table.specs.Columns.{shape}
 use Rattle.table.specs.Rule.{held}
 use Rattle.table.specs.Find.{find-row}
 use Rattle.table.specs.declared.Found.{Found}
@@ -20,16 +19,14 @@ use Rattle.table.proofs.Table.{row-rule, find-at}
 use Rattle.entry.specs.Entry.{entry-of}
 use Rattle.entry.proofs.RowLaws.{held-most}
 use Rattle.card.proofs.Made.{length-card}
-use Rattle.gauge.specs.Gates.{gate, read-gate, write-gate, write-only, read-only, smallest, largest, sizes-of}
+use Rattle.gate.specs.Gates.{Way, to-row, no-way, gate, read-gate, write-gate, write-only, read-only, smallest, largest, sizes-of}
+use Rattle.gate.specs.Lock.{locked}
+use Rattle.command.specs.Words.{command-at, read-word, word-of, same-bytes}
+use Rattle.command.specs.declared.word.Command.{Command}
+use Rattle.command.specs.declared.word.Command.the-variants.{DeviceReset, ExceptionReset, StoreParameters, LoadParameters}
 use Rattle.gauge.specs.Memory.{Memory, Store}
-use Rattle.gauge.specs.Words.{command-at, read-word, word-of, same-bytes}
-use Rattle.gauge.specs.Lock.{locked}
 use Rattle.gauge.specs.Commands.{done, obeyed}
 use Rattle.gauge.specs.Whole.{by-type, value-of, read-through, read-whole, is-code, first-code, last-checks, effect, accepted, commit-row, with-trips, commit-through, commit-whole, write-sizes}
-use Rattle.gauge.specs.declared.gate.Gate.{Gate}
-use Rattle.gauge.specs.declared.gate.Gate.the-variants.{Open, Shut}
-use Rattle.gauge.specs.declared.word.Command.{Command}
-use Rattle.gauge.specs.declared.word.Command.the-variants.{DeviceReset, ExceptionReset, StoreParameters, LoadParameters}
 use Rattle.gauge.proofs.ValueLaws.{value-length}
 use Rattle.sdo.specs.declared.Key.{Key}
 use Rattle.sdo.specs.declared.Direction.the-variants.{Reads, Writes}
@@ -49,16 +46,16 @@ code c h k = record { fits = h; not-transfer = ne c 0x05040001 (omega arith); no
     ne : (a b : ℕ) → b < a → eqb a b ≡ false
     ne a b q = ne-eqb a b (λ e. omega arith)
 
--- a gate: its row is in the table, its code is one from 06020000 on
-GateOk : Gate → Type 0
-GateOk (Open r s) = r < row-count
-GateOk (Shut c) = Code c
+-- a way: its row is in the table, its code is one from 06020000 on
+WayOk : Way → Type 0
+WayOk (to-row r) = r < row-count
+WayOk (no-way c) = Code c
 
-gate-ok : (barred c i s : ℕ) (f : Found) → Code c → find-row i s ≡ f → GateOk (gate barred c f)
-unfolding GateOk gate
+gate-ok : (barred c i s : ℕ) (f : Found) → Code c → find-row i s ≡ f → WayOk (gate barred c f)
+unfolding WayOk gate
 gate-ok barred c i s (At r) k e = go (eqb (at-row r .access) barred)
   where
-    go : (b : Bool) → GateOk (cond b (Shut c) (Open r (shape (at-row r))))
+    go : (b : Bool) → WayOk (cond b (no-way c) (to-row r))
     go true = k
     go false = find-at i s r e .there
 gate-ok barred c i s NoIndex k e = code 0x06020000 (omega arith) (omega arith)
@@ -86,19 +83,19 @@ value-short r h values =
     short-cond (eqb (at-row r .kind) CARD) _ _ (rw (length-card values) (omega arith))
     (short-cond (eqb (at-row r .kind) COMMAND) _ _ (omega (arith, word-short (command-at (at-row r .index)))) (rw length-take (omega arith)))
 
-read-ok : (g : Gate) (values : List ℕ) → GateOk g → ReadOk (read-through g values)
-unfolding GateOk ReadOk read-through
-read-ok (Open r s) values h = omega (arith, value-short r h values)
-read-ok (Shut c) values h = h
+read-ok : (w : Way) (values : List ℕ) → WayOk w → ReadOk (read-through w values)
+unfolding WayOk ReadOk read-through
+read-ok (to-row r) values h = omega (arith, value-short r h values)
+read-ok (no-way c) values h = h
 
 SizesOk : Sizes → Type 0
 SizesOk (sizes low high) = Unit {0}
 SizesOk (closed c) = Code c
 
-sizes-ok : (g : Gate) → GateOk g → SizesOk (sizes-of g)
-unfolding GateOk SizesOk sizes-of
-sizes-ok (Open r s) h = tt
-sizes-ok (Shut c) h = h
+sizes-ok : (w : Way) → WayOk w → SizesOk (sizes-of w)
+unfolding WayOk SizesOk sizes-of
+sizes-ok (to-row r) h = tt
+sizes-ok (no-way c) h = h
 
 module _ {S : Type 0} where
   OutcomeOk : Outcome S → Type 0
@@ -147,17 +144,17 @@ trips-ok g (stored m) h = tt
 trips-ok g (restarted m) h = tt
 trips-ok g (declined c) h = h
 
-commit-ok : (g : Gate) (s : Store) (bytes : List ℕ) → GateOk g → OutcomeOk (commit-through g s bytes)
-unfolding GateOk OutcomeOk commit-through commit-row
-commit-ok (Open r z) s bytes h =
-    trips-ok s (commit-row (at-row r) bytes (s .memory))
-    (accepted-ok (first-code (last-checks (at-row r) (s .memory .values) bytes)) (effect (at-row r) bytes (s .memory)) (first-ok (at-row r) (s .memory .values) bytes) (effect-ok (at-row r) bytes (s .memory)))
-commit-ok (Shut c) s bytes h = h
+commit-ok : (w : Way) (g : Store) (bytes : List ℕ) → WayOk w → OutcomeOk (commit-through w g bytes)
+unfolding WayOk OutcomeOk commit-through commit-row
+commit-ok (to-row r) g bytes h =
+    trips-ok g (commit-row (at-row r) bytes (g .memory))
+    (accepted-ok (first-code (last-checks (at-row r) (g .memory .values) bytes)) (effect (at-row r) bytes (g .memory)) (first-ok (at-row r) (g .memory .values) bytes) (effect-ok (at-row r) bytes (g .memory)))
+commit-ok (no-way c) g bytes h = h
 
-read-gate-ok : (k : Key) → GateOk (read-gate (find-row (k .index) (k .sub)))
+read-gate-ok : (k : Key) → WayOk (read-gate (find-row (k .index) (k .sub)))
 read-gate-ok k = gate-ok WO write-only (k .index) (k .sub) (find-row (k .index) (k .sub)) (code write-only (omega arith) (omega arith)) refl
 
-write-gate-ok : (k : Key) → GateOk (write-gate (find-row (k .index) (k .sub)))
+write-gate-ok : (k : Key) → WayOk (write-gate (find-row (k .index) (k .sub)))
 write-gate-ok k = gate-ok RO read-only (k .index) (k .sub) (find-row (k .index) (k .sub)) (code read-only (omega arith) (omega arith)) refl
 
 pub sound : Sound bag552
@@ -198,7 +195,7 @@ module _ (k : Key) where
       there : r < row-count
       there = find-at (k .index) (k .sub) r e .there
 
-      go : (b : Bool) → eqb (at-row r .access) WO ≡ b → ReadRow (read-through (cond b (Shut write-only) (Open r (shape (at-row r)))) values)
+      go : (b : Bool) → eqb (at-row r .access) WO ≡ b → ReadRow (read-through (cond b (no-way write-only) (to-row r)) values)
       go true q = tt
       go false q =
           record {
@@ -221,7 +218,7 @@ module _ (k : Key) where
       there : r < row-count
       there = find-at (k .index) (k .sub) r e .there
 
-      go : (b : Bool) → eqb (at-row r .access) RO ≡ b → WriteRow (sizes-of (cond b (Shut read-only) (Open r (shape (at-row r)))))
+      go : (b : Bool) → eqb (at-row r .access) RO ≡ b → WriteRow (sizes-of (cond b (no-way read-only) (to-row r)))
       go true q = tt
       go false q = (
         refl,
@@ -249,7 +246,7 @@ commit-good : (g : Store) (k : Key) (bytes : List ℕ) → GoodStore g → RowOf
 unfolding commit-whole commit-through gate
 commit-good g k bytes ok w = rw (w .found) (go (eqb (at-row (w .row) .access) RO))
   where
-    go : (b : Bool) → GoodAfter bag552 GoodStore (commit-through (cond b (Shut read-only) (Open (w .row) (shape (at-row (w .row))))) g bytes)
+    go : (b : Bool) → GoodAfter bag552 GoodStore (commit-through (cond b (no-way read-only) (to-row (w .row))) g bytes)
     go true = tt
     go false =
         trips-good g (commit-row (at-row (w .row)) bytes (g .memory))

@@ -23,14 +23,14 @@ use Rattle.card.specs.Card.{point-1, point-2, fields-of, with-point, with-card}
 use Rattle.block.proofs.Theorems as saved
 use Rattle.sample.specs.Faults.{with-faults, with-summary}
 use Rattle.sample.specs.Sample.{trips-after, with-reading, with-trips, values-after}
+use Rattle.command.specs.Words.{command-at, status-of, with-status, same-bytes, word-of}
+use Rattle.command.specs.Exceptions.{exceptions-cleared}
+use Rattle.command.specs.declared.word.Command.{Command}
+use Rattle.command.specs.declared.word.Command.the-variants.{DeviceReset, ExceptionReset, StoreParameters, LoadParameters}
 use Rattle.gauge.specs.Memory.{Memory}
-use Rattle.gauge.specs.Words.{command-at, status-of, with-status, same-bytes, word-of}
-use Rattle.gauge.specs.Exceptions.{exceptions-cleared}
 use Rattle.gauge.specs.PowerUp.{fresh-values, powered-up}
 use Rattle.gauge.specs.Commands.{done, obeyed}
 use Rattle.gauge.specs.Whole.{by-type, first-code, last-checks, effect, accepted, commit-row}
-use Rattle.gauge.specs.declared.word.Command.{Command}
-use Rattle.gauge.specs.declared.word.Command.the-variants.{DeviceReset, ExceptionReset, StoreParameters, LoadParameters}
 use Rattle.gauge.proofs.CommitLaws.{other-held}
 
 abbrev Long : List ℕ → Type 0

@@ -14,9 +14,9 @@ use Rattle.entry.specs.Entry.{entry-of, stored as entry-stored, default-of, def
 use Rattle.card.specs.Card.{enable, point-fields, point-bits, card-bits, card-of, fields-of, layout-verdict, level-verdict, first-bad, point-verdict, card-verdict, with-point, with-card}
 use Rattle.block.specs.Block.{width, entry-bits, entry-bytes, within, nv-rows, widths, saved, load-rows, values-good, rows-good, all-zero, block-of, good}
 use Rattle.block.specs.Saved.{storable, stored as block-stored, loadable, loaded}
-use Rattle.gauge.specs.Gates.{gate, smallest, largest, sizes-of}
-use Rattle.gauge.specs.Words.{command-at, word-of, read-word, status-of, with-status, same-bytes}
-use Rattle.gauge.specs.Lock.{guarded, locked}
+use Rattle.gate.specs.Gates.{gate, smallest, largest, sizes-of}
+use Rattle.gate.specs.Lock.{guarded, locked}
+use Rattle.command.specs.Words.{command-at, word-of, read-word, status-of, with-status, same-bytes}
 use Rattle.gauge.specs.PowerUp.{fresh-values, powered-up}
 use Rattle.gauge.specs.Commands.{status-by, done, obeyed}
 use Rattle.gauge.specs.Whole.{by-type, value-of, read-through, read-whole, first-code, verdict-of, last-checks, effect, accepted, commit-row, with-trips, commit-through, commit-whole, write-sizes}

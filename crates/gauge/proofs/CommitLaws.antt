@@ -22,17 +22,17 @@ use Rattle.entry.proofs.RowLaws.{held-is}
 use Rattle.card.specs.Card.{card-of, card-verdict, with-card}
 use Rattle.block.specs.Saved.{storable, loadable, loaded}
 use Rattle.block.specs.Saved as saved
+use Rattle.gate.specs.Lock.{locked}
+use Rattle.command.specs.Words.{command-at, word-of, read-word, with-status, same-bytes}
+use Rattle.command.specs.Exceptions.{exceptions-cleared}
+use Rattle.command.specs.declared.word.Command.{Command}
+use Rattle.command.specs.declared.word.Command.the-variants.{DeviceReset, ExceptionReset, StoreParameters, LoadParameters}
 use Rattle.gauge.specs.Memory.{Memory, memory-of}
-use Rattle.gauge.specs.Words.{command-at, word-of, read-word, with-status, same-bytes}
-use Rattle.gauge.specs.Lock.{locked}
-use Rattle.gauge.specs.Exceptions.{exceptions-cleared}
 use Rattle.gauge.specs.PowerUp.{fresh-values, powered-up}
 use Rattle.gauge.specs.Commands.{status-by, done, obeyed}
 use Rattle.gauge.specs.Endings.{Left, left, left-by}
 use Rattle.gauge.specs.Whole.{by-type, value-of, first-code, verdict-of, last-checks, effect, accepted, commit-row}
 use Rattle.gauge.specs.declared.commit.Ending.the-variants.{Accepted, Restarted, Refused}
-use Rattle.gauge.specs.declared.word.Command.{Command}
-use Rattle.gauge.specs.declared.word.Command.the-variants.{DeviceReset, ExceptionReset, StoreParameters, LoadParameters}
 
 -- ---- by type
 

@@ -31,18 +31,18 @@ use Rattle.card.proofs.RoundTrip.{card-back}
 use Rattle.block.specs.Saved.{loaded}
 use Rattle.block.proofs.Theorems.{length-loaded, load-other}
 use Rattle.sample.specs.Faults.{with-summary}
+use Rattle.gate.specs.Lock.{guarded, locked}
+use Rattle.command.specs.Words.{word-of, status-of, with-status, same-bytes}
+use Rattle.command.specs.Exceptions.{exceptions-cleared}
+use Rattle.command.specs.declared.word.Command.{Command}
+use Rattle.command.specs.declared.word.Command.the-variants.{DeviceReset, ExceptionReset, StoreParameters, LoadParameters}
 use Rattle.gauge.specs.Memory.{Memory, with-values}
-use Rattle.gauge.specs.Words.{word-of, status-of, with-status, same-bytes}
-use Rattle.gauge.specs.Lock.{guarded, locked}
-use Rattle.gauge.specs.Exceptions.{exceptions-cleared}
 use Rattle.gauge.specs.PowerUp.{powered-up}
 use Rattle.gauge.specs.Commands.{done, obeyed}
 use Rattle.gauge.specs.Endings.{left, left-by}
 use Rattle.gauge.specs.Whole.{value-of, first-code, verdict-of, last-checks, effect, accepted, commit-row}
 use Rattle.gauge.specs.Checks.{asked, fails, under-lock, row-number}
 use Rattle.gauge.specs.declared.commit.Ending.the-variants.{Refused}
-use Rattle.gauge.specs.declared.word.Command.{Command}
-use Rattle.gauge.specs.declared.word.Command.the-variants.{DeviceReset, ExceptionReset, StoreParameters, LoadParameters}
 use Rattle.gauge.proofs.CommitLaws.{of-card, of-other, other-held, card-length, lock-refuses, limits-first, card-judged}
 
 -- "The lock .. never [refuses writes] to itself"

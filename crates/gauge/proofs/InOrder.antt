@@ -15,8 +15,8 @@ use Rattle.table.specs.Rows.{at-row}
 use Rattle.table.specs.Find.{find-row}
 use Rattle.table.specs.declared.Found.{Found}
 use Rattle.table.specs.declared.Found.the-variants.{At, NoIndex, NoSub}
+use Rattle.gate.specs.Gates.{gate, read-gate, smallest, largest, sizes-of}
 use Rattle.gauge.specs.Memory.{Memory, Store}
-use Rattle.gauge.specs.Gates.{gate, read-gate, smallest, largest, sizes-of}
 use Rattle.gauge.specs.Whole.{first-code, last-checks, read-through, read-whole, effect, accepted, commit-row, with-trips, commit-through, commit-whole, write-sizes}
 use Rattle.gauge.specs.Checks.{Asked, asked, asked-read, row-number, least, most, Test, no-such-index, no-such-subindex, only-written, only-read, announced-long, announced-short, sent-long, sent-short, under-lock, no-number, too-high, too-low, code-of, is-no-index, is-no-sub, says-above, says-below, fails, read-order, write-order, checks, refused-by, told, answered, read-checked, write-checked}
 

@@ -1,5 +1,3 @@
-pub mod GateLaws
-pub mod SameBytes
 pub mod CommitLaws
 pub mod ValueLaws
 pub mod InOrder

@@ -1,24 +1,24 @@
 -- A whole read gives as many bytes as its row says. Assumes nothing.
-use mathlib.Core.Path.{_≡_, refl, sym, ap, subst, _∙_}
+use mathlib.Core.Path.{_≡_, refl, sym, ap, _∙_}
 use mathlib.Core.Bool.{Bool, true, false}
 use mathlib.Core.List.{List}
 use mathlib.Core.Logic.{_⊎_, inl, inr}
-use Prim.Native.Nat.{ℕ, _<_, _≤_}
+use Prim.Native.Nat.{ℕ, _<_}
 use native.Mathlib.Omega.{arith}
 use lib.Dec.{T, eqb, eqb→eq}
 use lib.ListN.{length, take, drop}
-use borrow.Author.Tests.{eqb-true, eqb-false, eq-eqb}
+use borrow.Author.Tests.{eqb-true, eqb-false}
 use Rattle.table.specs.Row.{Row, no-row, CARD, COMMAND}
 use Rattle.table.specs.Rows.{rows, row-count, at-row}
 use Rattle.table.specs.Walk.{every}
-use Rattle.table.specs.Rule.{pick, held}
+use Rattle.table.specs.Rule.{pick}
 use Rattle.table.proofs.Walks.{every-at}
 use Rattle.table.proofs.Table.{row-rule, rows-length}
 use Rattle.entry.specs.Entry.{entry-of}
 use Rattle.entry.proofs.EntryLaws.{entry-length}
 use Rattle.card.specs.Card.{card-of}
 use Rattle.card.proofs.Made.{length-card}
-use Rattle.gauge.specs.Words.{command-at, read-word}
+use Rattle.command.specs.Words.{command-at, read-word}
 use Rattle.gauge.specs.Whole.{value-of}
 use Rattle.gauge.proofs.CommitLaws.{of-card, of-command, of-other, card-length, other-held}
 

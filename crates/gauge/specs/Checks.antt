@@ -12,9 +12,9 @@ use Rattle.table.specs.Row.{Row, RO, WO}
 use Rattle.table.specs.Rows.{row-count, at-row}
 use Rattle.table.specs.declared.Found.{Found}
 use Rattle.table.specs.declared.Found.the-variants.{At, NoIndex, NoSub}
-use Rattle.gauge.specs.Gates.{index-absent, subindex-absent, write-only, read-only, smallest, largest}
+use Rattle.gate.specs.Gates.{index-absent, subindex-absent, write-only, read-only, smallest, largest}
+use Rattle.gate.specs.Lock.{locked}
 use Rattle.gauge.specs.Memory.{Store}
-use Rattle.gauge.specs.Lock.{locked}
 use Rattle.gauge.specs.Whole.{Check, check, first-code, is-code, value-of, effect, accepted, with-trips}
 
 -- ---- what is asked

@@ -5,12 +5,12 @@ use Prim.Native.Nat.{ℕ}
 use Rattle.order.specs.Talk.{Outcome, stored, restarted}
 use Rattle.block.specs.Saved.{storable, loadable, loaded}
 use Rattle.block.specs.Saved as saved
+use Rattle.command.specs.Words.{word-of, with-status, same-bytes}
+use Rattle.command.specs.Exceptions.{exceptions-cleared}
+use Rattle.command.specs.declared.word.Command.{Command}
+use Rattle.command.specs.declared.word.Command.the-variants.{DeviceReset, ExceptionReset, StoreParameters, LoadParameters}
 use Rattle.gauge.specs.Memory.{Memory, memory-of, with-values}
-use Rattle.gauge.specs.Words.{word-of, with-status, same-bytes}
-use Rattle.gauge.specs.Exceptions.{exceptions-cleared}
 use Rattle.gauge.specs.PowerUp.{powered-up}
-use Rattle.gauge.specs.declared.word.Command.{Command}
-use Rattle.gauge.specs.declared.word.Command.the-variants.{DeviceReset, ExceptionReset, StoreParameters, LoadParameters}
 
 -- status 0, done, or 2
 unfoldable pub status-by : Bool → ℕ

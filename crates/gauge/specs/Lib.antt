@@ -1,7 +1,3 @@
-pub mod Gates
-pub mod Words
-pub mod Lock
-pub mod Exceptions
 pub mod Memory
 pub mod PowerUp
 pub mod Commands

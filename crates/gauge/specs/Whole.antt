@@ -13,13 +13,11 @@ use Rattle.entry.specs.Entry as entry
 use Rattle.entry.specs.declared.limits.Verdict.{Verdict}
 use Rattle.card.specs.Card.{card-of, card-verdict, with-card}
 use Rattle.trip.specs.Trip.{all-off}
+use Rattle.gate.specs.Gates.{Way, to-row, no-way, read-gate, write-gate, sizes-of}
+use Rattle.gate.specs.Lock.{locked}
+use Rattle.command.specs.Words.{command-at, read-word}
 use Rattle.gauge.specs.Memory.{Memory, Store, with-values}
-use Rattle.gauge.specs.Words.{command-at, read-word}
-use Rattle.gauge.specs.Lock.{locked}
 use Rattle.gauge.specs.Commands.{obeyed}
-use Rattle.gauge.specs.Gates.{read-gate, write-gate, sizes-of}
-use Rattle.gauge.specs.declared.gate.Gate.{Gate}
-use Rattle.gauge.specs.declared.gate.Gate.the-variants.{Open, Shut}
 
 -- by type: the card is a view, a command word has its printed value, all else is stored
 unfoldable pub by-type : {A : Type 0} → Row → A → A → A → A
@@ -31,9 +29,9 @@ by-type r card command other = cond (eqb (r .kind) CARD) card (cond (eqb (r .kin
 unfoldable pub value-of : Row → List ℕ → List ℕ
 value-of r values = by-type r (card-of values) (read-word (command-at (r .index))) (entry-of r values)
 
-unfoldable pub read-through : Gate → List ℕ → Read
-read-through (Open r s) values = value (value-of (at-row r) values)
-read-through (Shut code) values = denied code
+unfoldable pub read-through : Way → List ℕ → Read
+read-through (to-row r) values = value (value-of (at-row r) values)
+read-through (no-way code) values = denied code
 
 unfoldable pub read-whole : Store → ℕ → ℕ → Read
 read-whole g index sub = read-through (read-gate (find-row index sub)) (g .memory .values)
@@ -90,9 +88,9 @@ with-trips g (stored m) = stored (record { memory = m; trips = g .trips })
 with-trips g (restarted m) = restarted (record { memory = m; trips = all-off })
 with-trips g (declined code) = declined code
 
-unfoldable pub commit-through : Gate → Store → List ℕ → Outcome Store
-commit-through (Open r s) g bytes = with-trips g (commit-row (at-row r) bytes (g .memory))
-commit-through (Shut code) g bytes = declined code
+unfoldable pub commit-through : Way → Store → List ℕ → Outcome Store
+commit-through (to-row r) g bytes = with-trips g (commit-row (at-row r) bytes (g .memory))
+commit-through (no-way code) g bytes = declined code
 
 unfoldable pub commit-whole : Store → ℕ → ℕ → List ℕ → Outcome Store
 commit-whole g index sub bytes = commit-through (write-gate (find-row index sub)) g bytes

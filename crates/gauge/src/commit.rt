@@ -1,9 +1,9 @@
 // A whole write of a row: lock, limits, and what an accepted write does.
-use crate::exception;
-use crate::lock;
 use crate::power;
-use crate::word;
-use crate::word::Command;
+use command::exception;
+use command::word;
+use command::word::Command;
+use gate::lock;
 use table::field;
 ghost use mathlib.Core.Path.{_≡_};
 ghost use Prim.Native.Nat.{_<_};

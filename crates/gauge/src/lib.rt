@@ -1,8 +1,4 @@
 // THE PLAIN GAUGE: whole reads and whole writes of entries, commands, power-up. The lines only cut these into messages.
 pub mod commit;
-pub mod exception;
-pub mod gate;
-pub mod lock;
 pub mod power;
 pub mod read;
-pub mod word;

@@ -1,5 +1,5 @@
 // A whole read of a row.
-use crate::word;
+use command::word;
 ghost use mathlib.Core.Path.{_≡_};
 ghost use Prim.Native.Nat.{_<_};
 ghost use lib.ListN.{length, replicate};

@@ -11,11 +11,9 @@ use Rattle.order.specs.Gauge.{narrowed}
 use Rattle.table.specs.Rows.{at-row}
 use Rattle.table.specs.Find.{find-row}
 use Rattle.table.specs.Rule.{pick}
-use Rattle.gauge.specs.Gates.{read-gate}
+use Rattle.gate.specs.Gates.{Way, to-row, no-way, read-gate}
 use Rattle.gauge.specs.Memory.{memory-of}
 use Rattle.gauge.specs.Whole.{commit-row}
-use Rattle.gauge.specs.declared.gate.Gate.{Gate}
-use Rattle.gauge.specs.declared.gate.Gate.the-variants.{Open, Shut}
 use Rattle.sdo.specs.declared.Key.{Key}
 use Rattle.sdo.specs.declared.Transfer.{Transfer}
 use Rattle.sdo.specs.Eight.{answerOf}
@@ -77,9 +75,9 @@ pub read-done : (k : Key) (values : List ℕ) → (through (read-gate (find-row 
 unfolding through open-read openReadReply
 read-done k values = go (read-gate (find-row (k .index) (k .sub)))
   where
-    go : (g : Gate) → (through g k (open-read values)) .act ≡ Done
-    go (Open row shape) = pick-done (short (at-row row .len)) _ _ refl refl
-    go (Shut c) = refl
+    go : (w : Way) → (through w k (open-read values)) .act ≡ Done
+    go (to-row row) = pick-done (short (at-row row .len)) _ _ refl refl
+    go (no-way c) = refl
 
 pub write-done : (row : ℕ) (said : Said) → (openWriteReply row said) .act ≡ Done
 unfolding openWriteReply openWriteBy

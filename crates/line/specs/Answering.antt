@@ -9,11 +9,9 @@ use Rattle.wire.specs.Splice.{splice}
 use Rattle.order.specs.Talk.{announced, unsaid, own, refused, noTransfer, Outcome, stored, restarted, declined}
 use Rattle.table.specs.Rows.{at-row}
 use Rattle.table.specs.Find.{find-row}
-use Rattle.gauge.specs.Gates.{read-gate, write-gate}
+use Rattle.gate.specs.Gates.{Way, to-row, no-way, read-gate, write-gate}
 use Rattle.gauge.specs.Memory.{Memory, memory-of}
 use Rattle.gauge.specs.Whole.{value-of, commit-row}
-use Rattle.gauge.specs.declared.gate.Gate.{Gate}
-use Rattle.gauge.specs.declared.gate.Gate.the-variants.{Open, Shut}
 use Rattle.gauge.specs.declared.commit.Ending.{Ending}
 use Rattle.gauge.specs.declared.commit.Ending.the-variants.{Accepted, Restarted, Refused}
 use Rattle.sdo.specs.declared.Key.{Key}
@@ -27,10 +25,10 @@ use Rattle.sdo.specs.Records.{allZero, keyAt}
 use Rattle.sdo.specs.Replies.{Act, Done, Commit, Reply, ending, nextPartReply, sendPartReply, filled, openReadReply, openWriteReply, expeditedReply}
 use Rattle.state.specs.State.{record-bytes, dropped}
 
--- a gate that is shut answers with its code
-unfoldable pub through : Gate → Key → (ℕ → Reply) → Reply
-through (Open row shape) k opening = opening row
-through (Shut code) k opening = ending (answerOf (refused k code))
+-- where there is no way, the answer is the code
+unfoldable pub through : Way → Key → (ℕ → Reply) → Reply
+through (to-row row) k opening = opening row
+through (no-way code) k opening = ending (answerOf (refused k code))
 
 -- a read is opened: the value as it is now
 unfoldable pub open-read : List ℕ → ℕ → Reply

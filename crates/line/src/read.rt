@@ -1,7 +1,6 @@
 // Reads on a line: openings and parts.
 use crate::reply;
-use gauge::gate;
-use gauge::gate::Gate;
+use gate::Gate;
 use sdo::Direction;
 use sdo::Key;
 use sdo::Transfer;
@@ -15,7 +14,7 @@ ghost use Rattle.order.specs.Talk.{opened};
 ghost use Rattle.table.specs.Rows.{row-count, at-row};
 ghost use Rattle.table.specs.Columns.{shape as row-shape};
 ghost use Rattle.table.specs.Find.{find-row};
-ghost use Rattle.gauge.specs.Gates.{read-gate};
+ghost use Rattle.gate.specs.Gates.{read-gate};
 ghost use Rattle.gauge.specs.Whole.{value-of};
 ghost use Rattle.sdo.specs.Eight.{answerOf};
 ghost use Rattle.sdo.specs.Records.{keyAt};

@@ -1,8 +1,7 @@
 // Writes on a line: openings, with the value or without, and parts.
 use crate::reply;
+use gate::Gate;
 use gauge::commit::Ending;
-use gauge::gate;
-use gauge::gate::Gate;
 use sdo::Direction;
 use sdo::Key;
 use sdo::Opening;
@@ -16,7 +15,7 @@ ghost use Rattle.order.specs.Talk.{announced, unsaid, own};
 ghost use Rattle.table.specs.Rows.{row-count, at-row};
 ghost use Rattle.table.specs.Columns.{shape as row-shape};
 ghost use Rattle.table.specs.Find.{find-row};
-ghost use Rattle.gauge.specs.Gates.{write-gate};
+ghost use Rattle.gate.specs.Gates.{write-gate};
 ghost use Rattle.gauge.specs.Endings.{left, left-by};
 ghost use Rattle.gauge.specs.Memory.{memory-of};
 ghost use Rattle.gauge.specs.Whole.{commit-row};

@@ -2,7 +2,7 @@
 use mathlib.Core.Path.{refl, sym, ap, _∙_}
 use borrow.Author.Needs.{needs}
 use Rattle.table.specs.Find.{find-row}
-use Rattle.gauge.specs.Gates.{read-gate}
+use Rattle.gate.specs.Gates.{read-gate}
 use Rattle.sdo.specs.Replies.{ending, nextPartReply}
 use Rattle.sdo.specs.declared.Message.{Message}
 use Rattle.sdo.proofs.ReplyLaws.{part-count}

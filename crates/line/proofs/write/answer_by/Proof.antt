@@ -1,5 +1,5 @@
 -- `line::write::answer_by`: by the ending. Assumes nothing.
-use mathlib.Core.Path.{_≡_, sym, ap, _∙_}
+use mathlib.Core.Path.{sym, ap, _∙_}
 use Rattle.order.specs.Talk.{refused}
 use Rattle.sdo.specs.Eight.{answerOf}
 use Rattle.sdo.specs.declared.Key.{Key}

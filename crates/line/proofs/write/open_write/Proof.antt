@@ -3,7 +3,7 @@ use mathlib.Core.Path.{refl, ap, _∙_}
 use borrow.Author.Needs.{needs}
 use Rattle.order.specs.Talk.{refused}
 use Rattle.table.specs.Row.{RO}
-use Rattle.gauge.specs.Gates.{read-only}
+use Rattle.gate.specs.Gates.{read-only}
 use Rattle.sdo.specs.Eight.{answerOf}
 use Rattle.sdo.specs.Replies.{ending}
 use Rattle.line.specs.Answering.{answered, open-write}
@@ -22,7 +22,8 @@ open-on-requires : tie.Need-open-on-requires
 open-on-requires c κs =
     let g = c .before .before .before .before in
     let s = g .before .before .before .before .before .before .before in
-    (s .pre .0, open-row RO read-only (g .gate .given .0 .0) (g .gate .given .0 .1 .0) (s .args .k) (g .before .before .to-write .ensures) (g .gate .given .1), s .pre .1, s .pre .2)
+    let w = g .before .before .to-write .ensures in
+    (s .pre .0, open-row RO read-only (s .args .k) (w .0) (g .gate .given .0 .0) (g .gate .given .0 .1 .0) (w .1) (g .gate .given .1), s .pre .1, s .pre .2)
 
 enum-known-gate-2 : tie.Need-enum-known-gate-2
 enum-known-gate-2 c = search needs
@@ -41,25 +42,27 @@ same-length-3 c = search needs
 
 returns : tie.Need-returns
 returns c =
-    let s = c .before .before .before .before .before .before .before .before .before .before .before .before .before .before .before .before .before .before in
+    let g = c .before .before .before .before .before .before .before .before .before .before .before in
+    let s = g .before .before .before .before .before .before .before in
     let p = s .args .at in
     let v = s .args .values .now in
     let b = s .args .block .now in
     let o = s .args .state .now in
-    c .before .before .before .before .before .before .open-on .ensures ∙ ap (answered p v b o) (open-reply RO read-only (s .args .k) (open-write (s .args .opening) (s .args .m .now)) (c .before .before .before .before .before .before .before .before .before .before .before .before .before .to-write .ensures) (c .before .before .before .before .before .before .before .before .before .before .before .gate .given .0 .0) (c .before .before .before .before .before .before .before .before .before .before .before .gate .given .0 .1 .0) (c .before .before .before .before .before .before .before .before .before .before .before .gate .given .1))
+    c .before .before .before .before .before .before .open-on .ensures ∙ ap (answered p v b o) (open-reply RO read-only (s .args .k) (g .before .before .to-write .ensures .0) (open-write (s .args .opening) (s .args .m .now)) (g .gate .given .0 .0) (g .gate .given .0 .1 .0) (g .gate .given .1))
 
 same-length-4 : tie.Need-same-length-4
 same-length-4 c = search needs
 
 returns-2 : tie.Need-returns-2
 returns-2 c =
-    let s = c .before .before .before .before .before .before .before .before .before .before .before .before in
+    let g = c .before .before .before .before .before in
+    let s = g .before .before .before .before .before .before .before in
     let p = s .args .at in
     let v = s .args .values .now in
     let b = s .args .block .now in
     let o = s .args .state .now in
-    let c₁ = c .before .before .before .before .before .gate2 .given .0 .0 in
-    told-as p v b o (ending (answerOf (refused (s .args .k) c₁))) refl (c .before .before .refused .ensures) (shut-reply RO read-only (s .args .k) (open-write (s .args .opening) (s .args .m .now)) (c .before .before .before .before .before .before .before .to-write .ensures) c₁ (c .before .before .before .before .before .gate2 .given .1))
+    let c₁ = g .gate2 .given .0 .0 in
+    told-as p v b o (ending (answerOf (refused (s .args .k) c₁))) refl (c .before .before .refused .ensures) (shut-reply RO read-only (s .args .k) (g .before .before .to-write .ensures .0) (open-write (s .args .opening) (s .args .m .now)) c₁ (g .gate2 .given .1))
 
 pub open-write-spec : {M : Type 1} → statement M
 open-write-spec =

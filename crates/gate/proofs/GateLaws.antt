@@ -1,0 +1,69 @@
+-- The gate by cases, as the code takes it; what a key that leads to a row says of it. Assumes nothing.
+use mathlib.Core.Path.{_≡_, refl, sym, ap, subst, _∙_}
+use mathlib.Core.Bool.{Bool, true, false, cond}
+use Prim.Native.Nat.{ℕ, _<_}
+use native.Mathlib.Omega.{arith}
+use lib.Dec.{eqb}
+use borrow.Author.Tests.{eqb-false, eq-eqb, ne-eqb}
+use Rattle.table.specs.Rows.{at-row, row-count}
+use Rattle.table.specs.Columns.{shape, access-in}
+use Rattle.table.specs.Find.{find-row}
+use Rattle.table.specs.declared.Found.{Found}
+use Rattle.table.specs.declared.Found.the-variants.{At, NoIndex, NoSub}
+use Rattle.table.proofs.Table.{find-at}
+use Rattle.table.proofs.Shapes.{access-told}
+use Rattle.gate.specs.Gates.{to-row, no-way, gate, way-of, Shaped, index-absent, subindex-absent}
+use Rattle.gate.specs.declared.Gate.{Gate}
+use Rattle.gate.specs.declared.Gate.the-variants.{Open, Shut}
+
+module _ (barred code index sub : ℕ) {f : Found} (found : f ≡ find-row index sub) where
+  -- what the code promises of the enum that it gives
+  abbrev Gated : Gate → Type 0
+  Gated g = (way-of g ≡ gate barred code (find-row index sub)) × Shaped g
+
+  pub there : (r : ℕ) → f ≡ At r → r < row-count
+  there r e = find-at index sub r (sym found ∙ e) .there
+
+  module _ (r a : ℕ) {s : ℕ} (e : f ≡ At r) (h : s ≡ shape (at-row r)) (q : a ≡ access-in s) where
+    access : a ≡ at-row r .access
+    access = access-told r (there r e) h q
+
+    pub barred-row : a ≡ barred → Gated (Shut code)
+    unfolding gate way-of Shaped
+    barred-row b = (rw (sym found ∙ e, eq-eqb (at-row r .access) barred (sym access ∙ b)), tt)
+
+    pub open-row : (a ≡ barred → ⊥) → Gated (Open r s)
+    unfolding gate way-of Shaped
+    open-row b = (rw (sym found ∙ e, ne-eqb (at-row r .access) barred (λ z. b (access ∙ z))), h)
+
+  pub no-index : f ≡ NoIndex → Gated (Shut index-absent)
+  unfolding gate way-of Shaped
+  no-index e = (rw (sym found ∙ e), tt)
+
+  pub no-sub : f ≡ NoSub → Gated (Shut subindex-absent)
+  unfolding gate way-of Shaped
+  no-sub e = (rw (sym found ∙ e), tt)
+
+-- ---- what an open gate says
+
+-- the row was found, and its access is not the barred one
+pub record Opened (barred index sub row : ℕ) : Type 0 where
+  pub found : find-row index sub ≡ At row
+  pub allowed : at-row row .access ≡ barred → ⊥
+
+pub opened : (barred code index sub row : ℕ) (f : Found) → find-row index sub ≡ f → gate barred code f ≡ to-row row → Opened barred index sub row
+unfolding gate
+opened barred code index sub row (At r) e g = go (eqb (at-row r .access) barred) refl g
+  where
+    go : (b : Bool) → eqb (at-row r .access) barred ≡ b → cond b (no-way code) (to-row r) ≡ to-row row → Opened barred index sub row
+    go true q h = let z : _≡_ {A = ℕ} 0 1 = cc in absurd (omega arith)
+    go false q h =
+        let z : r ≡ row = cc in
+        record { found = e ∙ ap At z; allowed = λ a. eqb-false (at-row r .access) barred q (ap (λ (n : ℕ). at-row n .access) z ∙ a) }
+opened barred code index sub row NoIndex e g = let z : _≡_ {A = ℕ} 0 1 = cc in absurd (omega arith)
+opened barred code index sub row NoSub e g = let z : _≡_ {A = ℕ} 0 1 = cc in absurd (omega arith)
+
+-- the shape that comes with it is the row's
+pub shaped : (row s : ℕ) {g : Gate} → Shaped g → g ≡ Open row s → s ≡ shape (at-row row)
+unfolding Shaped
+shaped row s h e = subst Shaped e h

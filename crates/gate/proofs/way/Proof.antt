@@ -1,0 +1,64 @@
+-- `gate::way`: each return is one law, given what the calls ensure. Assumes nothing.
+use borrow.Author.Needs.{needs}
+use Rattle.gate.proofs.GateLaws.{there, barred-row, open-row, no-index, no-sub}
+use Rattle.gate.proofs.way.Statement.{statement}
+use Rattle.gate.proofs.way.Tie as tie
+
+find-requires : tie.Need-find-requires
+find-requires c κs = search needs
+
+enum-known-found : tie.Need-enum-known-found
+enum-known-found c = search needs
+
+shape-of-requires : tie.Need-shape-of-requires
+shape-of-requires c κs =
+    let s = c .before .before .before .before in
+    there (s .args .barred) (s .args .code) (s .args .index) (s .args .sub) (c .before .before .before .find .ensures) (c .before .found .given .0 .0) (c .before .found .given .1)
+
+access-in-requires : tie.Need-access-in-requires
+access-in-requires c κs = search needs
+
+returns : tie.Need-returns
+returns c =
+    let f = c .before .before .before .before in
+    let s = f .before .before .before in
+    let e = c .before .before .shape-of .ensures in
+    barred-row (s .args .barred) (s .args .code) (s .args .index) (s .args .sub) (f .before .before .find .ensures) (f .found .given .0 .0) (c .before .access-in .result) (f .found .given .1) e (c .before .access-in .ensures) (c .if1 .taken)
+
+enum-told : tie.Need-enum-told
+enum-told c = search needs
+
+enum-told-2 : tie.Need-enum-told-2
+enum-told-2 c = search needs
+
+returns-2 : tie.Need-returns-2
+returns-2 c =
+    let f = c .before .before .before .before in
+    let s = f .before .before .before in
+    let e = c .before .before .shape-of .ensures in
+    open-row (s .args .barred) (s .args .code) (s .args .index) (s .args .sub) (f .before .before .find .ensures) (f .found .given .0 .0) (c .before .access-in .result) (f .found .given .1) e (c .before .access-in .ensures) (c .if1 .left)
+
+returns-3 : tie.Need-returns-3
+returns-3 c =
+    let s = c .before .before .before in
+    no-index (s .args .barred) (s .args .code) (s .args .index) (s .args .sub) (c .before .before .find .ensures) (c .enum-told .given .1)
+
+returns-4 : tie.Need-returns-4
+returns-4 c =
+    let s = c .before .before .before in
+    no-sub (s .args .barred) (s .args .code) (s .args .index) (s .args .sub) (c .before .before .find .ensures) (c .enum-told2 .given .1)
+
+pub way-spec : {M : Type 1} → statement M
+way-spec =
+    tie.close
+    (tie.spec
+    find-requires
+    enum-known-found
+    shape-of-requires
+    access-in-requires
+    returns
+    enum-told
+    enum-told-2
+    returns-2
+    returns-3
+    returns-4)
