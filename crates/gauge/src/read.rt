@@ -12,11 +12,11 @@ pub fn value_of(values: &[u8], row: usize, index: u16, kind: u8, len: usize) -> 
     requires { ⌜ (length (now values) ≡ 1024) × (row < row-count) × (index ≡ at-row row .index) × (kind ≡ at-row row .kind) × (len ≡ at-row row .len) ⌝ }
     ensures { λ r. ⌜ r ≡ splice (replicate 64 0) 0 (value-of (at-row row) (now (values .entry))) ⌝ }
 {
+    if kind < 7 {
+        return entry::read_entry(values, row, kind, len);
+    }
     if kind == 7 {
         return card::card_of(values);
     }
-    if kind == 8 {
-        return word::reading(word::command_at(index));
-    }
-    entry::read_entry(values, row, kind, len)
+    word::reading(word::command_at(index))
 }

@@ -1,6 +1,6 @@
 -- The test of a pressure, as code has it: the flag, not negative, and no difference to itself. Assumes nothing.
 use mathlib.Core.Path.{_≡_, refl, sym, ap, _∙_}
-use mathlib.Core.Bool.{Bool, true, false, cond, not, _&&_, _||_, Bool·beq}
+use mathlib.Core.Bool.{Bool, true, false, cond, not, _&&_, Bool·beq, and-false, or-true}
 use Prim.Native.Nat.{ℕ, _-_, _*_, _<_}
 use native.Mathlib.Nat.{zero-mul, mul-pos, sub-self, eq-of-mul-eq-mul-right}
 use native.Mathlib.Omega.{arith}
@@ -11,10 +11,6 @@ use lib.Ieee.Exact.{HasValue, round-exact}
 use lib.Ieee.Fits.{down-pos}
 use Rattle.trip.specs.Trip.{finite, usable-pressure}
 
-either : (t : Bool) → t || true ≡ true
-either true = refl
-either false = refl
-
 -- a number that is 0 over something is level with 0
 no-value : (x : Float) (s : Bool) (c : ℕ) → 0 < c → HasValue x s 0 c → eq x (ofBits binary32 0) ≡ true
 unfolding eq ofBits
@@ -24,7 +20,7 @@ no-value (fin t m e) s c p v =
     let h : m * up e ≡ 0 = eq-of-mul-eq-mul-right c p (m * up e) 0 (v .1 ∙ zero-mul (down e) ∙ sym (zero-mul c)) in
     let z : eqb (m * up e * 1) (0 * 1 * down e) ≡ true = eq-eqb (m * up e * 1) (0 * 1 * down e) (ap (λ (n : ℕ). n * 1) h ∙ sym (zero-mul (down e))) in
     let w : eqb (m * up e * 1) 0 ≡ true = eq-eqb (m * up e * 1) 0 (ap (λ (n : ℕ). n * 1) h) in
-    rw (z, w) (either (Bool·beq t false))
+    rw (z, w) (or-true (Bool·beq t false))
 
 -- 0 over something rounds to no value
 rounded : (s : Bool) (c : ℕ) → 0 < c → HasValue (round binary32 s 0 c) s 0 c
@@ -47,10 +43,6 @@ own-difference (inf true) = refl
 own-difference (inf false) = refl
 own-difference (fin s m e) = opposites s (m * up e * down e) (down e * down e) (mul-pos (down-pos e) (down-pos e))
 
-and-no : (b : Bool) → b && false ≡ false
-and-no true = refl
-and-no false = refl
-
 module _ (p : Float) (valid : ℕ) where
   pub no-flag : valid ≡ 0 → usable-pressure p valid ≡ false
   unfolding usable-pressure
@@ -58,7 +50,7 @@ module _ (p : Float) (valid : ℕ) where
 
   pub negative : lt p (ofBits binary32 0) ≡ true → usable-pressure p valid ≡ false
   unfolding usable-pressure
-  negative e = simp e (and-no (not (eqb valid 0)))
+  negative e = simp e (and-false (not (eqb valid 0)))
 
   pub rest : eqb valid 0 ≡ false → lt p (ofBits binary32 0) ≡ false → usable-pressure p valid ≡ eq (sub binary32 p p) (ofBits binary32 0)
   unfolding usable-pressure
