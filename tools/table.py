@@ -123,6 +123,8 @@ def broken_rules(rows, end):
             yield say("has a length that is not its type's")
         if row["nv"] and row["kind"] in ("ULINT", "CARD", "COMMAND"):
             yield say("is NV, and the saved block has no field for its type")
+        if row["nv"] and row["kind"] == "STRING" and row["place"] + 4 > VALUES:
+            yield say("is an NV string, of which a store looks at four bytes, and they end behind the values")
         if is_number(row):
             if not rank(row, row["low"]) <= rank(row, row["def"]) <= rank(row, row["high"]):
                 yield say("has limits out of order, or a default outside them")
@@ -130,6 +132,8 @@ def broken_rules(rows, end):
                 yield say("has a limit or a default that its length does not hold")
             if row["kind"] == "BOOL" and row["high"] > 1:
                 yield say("is a BOOL whose maximum is above 1")
+            if row["kind"] == "ULINT" and (row["low"], row["high"]) != (0, 2**64 - 1):
+                yield say("is a ULINT that does not take every number of its 8 bytes")
         elif row["low"] or row["high"] or row["def"]:
             yield say("is no number, and has limits or a default")
     if end > VALUES:
@@ -253,12 +257,10 @@ def place_rt(rows):
 
 
 def limit_pairs(rows):
-    """The pairs of limits that occur, no limits first, and for each row the number of its pair."""
-    pairs = [(0, 0)]
-    for row in rows:
-        if (row["low"], row["high"]) not in pairs:
-            pairs.append((row["low"], row["high"]))
-    return pairs, [pairs.index((row["low"], row["high"])) for row in rows]
+    """The pairs of limits that occur, no limits first, and for each row the number of its pair; a ULINT takes every number."""
+    own = [(0, 0) if row["kind"] == "ULINT" else (row["low"], row["high"]) for row in rows]
+    pairs = list(dict.fromkeys([(0, 0)] + own))
+    return pairs, [pairs.index(pair) for pair in own]
 
 
 def pairs_antt(rows):
@@ -318,8 +320,8 @@ def columns_rt(rows, end):
         ("PLACE", "u16", [r["place"] for r in rows]),
         ("LIMITS", "u8", numbers),
         ("DEFAULT", "u32", [r["def"] for r in rows]),
-        ("MINIMUM", "u64", [low for low, _ in pairs]),
-        ("MAXIMUM", "u64", [high for _, high in pairs]),
+        ("MINIMUM", "u32", [low for low, _ in pairs]),
+        ("MAXIMUM", "u32", [high for _, high in pairs]),
         ("WORD_PLACE", "u16", [place for place, _ in words]),
         ("WORD", "u32", [word for _, word in words]),
         ("NV_KIND", "u8", [KINDS.index(r["kind"]) for r in nv]),
@@ -331,8 +333,8 @@ def columns_rt(rows, end):
     ]
     text = """// The object table as flat constant arrays. tools/table.py writes this file from docs/object-table.md.
 // A column that is read is laid out on the stack, so columns are few and narrow: SHAPE has for each row type, access, NV mark and
-// length in one number, and LIMITS the number of its limits in MINIMUM and MAXIMUM, since few pairs serve all rows. WORD_PLACE and WORD
-// have the words that make the defaults out of zeros.
+// length in one number, and LIMITS the number of its limits in MINIMUM and MAXIMUM, since few pairs serve all rows. A ULINT's limits are
+// not there: it takes every number. WORD_PLACE and WORD have the words that make the defaults out of zeros.
 // NV_.. has the NV rows alone: the bit of the saved block at which each entry begins (and the last ends), and its limits as places in
 // the order of its type. NV_CUT has the bits that are looked at as a number: of a string the first 32, which its NV_LOW and NV_HIGH do
 // not refuse.

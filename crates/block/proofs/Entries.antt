@@ -14,14 +14,15 @@ use borrow.Author.Tests.{eq-eqb, ne-eqb, le-leb, lt-leb}
 use Rattle.bits.proofs.Numbers.{length-msb, length-bits, num-msb, msb-num, num-lt, small-take, small-msb, small-bits, length-packed, packed-bits, bits-packed}
 use Rattle.bits.proofs.Parts.{field-fits}
 use Rattle.bits.specs.Bits.{msb, bits, num, field, packed, Small, Bytes}
-use Rattle.block.specs.Asked.{Sized, number-len, entry-len, held-number}
+use Rattle.block.specs.Asked.{Sized, entry-len}
 use Rattle.block.specs.Block.{width, entry-bits, entry-bytes, within}
 use Rattle.entry.proofs.RowLaws.{no-number, bool-within}
+use Rattle.entry.specs.Entry.{number-len}
 use Rattle.entry.specs.Limits.{verdict-code}
 use Rattle.entry.specs.declared.limits.Verdict.{Verdict}
 use Rattle.entry.specs.declared.limits.Verdict.the-variants.{Within, NotANumber, Above, Below}
 use Rattle.table.proofs.Walks.{lt-or-ge}
-use Rattle.table.specs.Row.{Row, BOOL, USINT, UINT, REAL}
+use Rattle.table.specs.Row.{Row, BOOL, REAL}
 use Rattle.wire.proofs.LittleLaws.{length-little, from-little, little-from, number-lt}
 use Rattle.wire.specs.Little.{little, fromLittle, number}
 
@@ -153,18 +154,6 @@ number-narrow values place len hb h = lt-of-lt-of-le (number-lt values place len
 
 -- ---- its number and its bytes, by its type
 
-pub len-word : (kind : ℕ) → UINT < kind → number-len kind ≡ 4
-unfolding number-len
-len-word kind h = rw (lt-leb kind USINT (omega arith), ne-eqb kind UINT (λ e. omega arith))
-
-pub len-pair : (kind : ℕ) → kind ≡ UINT → number-len kind ≡ 2
-unfolding number-len
-len-pair kind e = rw (lt-leb kind USINT (omega arith), eq-eqb kind UINT e)
-
-pub len-byte : (kind : ℕ) → kind ≤ USINT → number-len kind ≡ 1
-unfolding number-len
-len-byte kind h = rw (le-leb kind USINT h)
-
 len-number : (kind w : ℕ) → kind ≤ REAL → entry-len kind w ≡ number-len kind
 unfolding entry-len
 len-number kind w h = rw (le-leb kind REAL h)
@@ -172,15 +161,6 @@ len-number kind w h = rw (le-leb kind REAL h)
 pub len-string : (kind w : ℕ) → REAL < kind → entry-len kind w ≡ w / 8
 unfolding entry-len
 len-string kind w h = rw (lt-leb kind REAL h)
-
-module _ (values : List ℕ) (place kind : ℕ) where
-  pub held-none : REAL < kind → 0 ≡ held-number values place kind
-  unfolding held-number
-  held-none h = sym (rw (lt-leb kind REAL h))
-
-  pub held-some : kind ≤ REAL → {v n : ℕ} → v ≡ number values place n → number-len kind ≡ n → v ≡ held-number values place kind
-  unfolding held-number
-  held-some h e l = e ∙ sym (rw (le-leb kind REAL h, l))
 
 -- an entry that is taken out of a block, and one that is saved in it
 module _ (kind w : ℕ) (at-width : w ≡ width kind (entry-len kind w)) where
@@ -198,11 +178,10 @@ module _ (kind w : ℕ) (at-width : w ≡ width kind (entry-len kind w)) where
   saved-string values place h =
       ap (λ (n : ℕ). bits (take n (drop place values))) (sym (len-string kind w h)) ∙ sym (bits-string kind (entry-len kind w) (take (entry-len kind w) (drop place values)) h)
 
-  pub saved-as-field : (values : List ℕ) (place : ℕ) {v : ℕ} → kind ≤ REAL → v ≡ held-number values place kind → msb w v ≡ entry-bits kind (entry-len kind w) (take (entry-len kind w) (drop place values))
+  pub saved-as-field : (values : List ℕ) (place : ℕ) {v : ℕ} → kind ≤ REAL → v ≡ number values place (number-len kind) → msb w v ≡ entry-bits kind (entry-len kind w) (take (entry-len kind w) (drop place values))
   unfolding number
   saved-as-field values place h e =
-      let f : number values place (entry-len kind w) ≡ held-number values place kind = held-some values place kind h refl (sym (len-number kind w h)) in
-      ap (msb w) (e ∙ sym f)
+      ap (msb w) (e ∙ ap (number values place) (sym (len-number kind w h)))
       ∙ ap (λ (k : ℕ). msb k (number values place (entry-len kind w))) at-width
       ∙ sym (bits-number kind (entry-len kind w) (take (entry-len kind w) (drop place values)) h)
 

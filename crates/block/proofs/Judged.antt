@@ -11,11 +11,12 @@ use Rattle.bits.proofs.Parts.{field-fits}
 use Rattle.bits.specs.Bits.{bits, field, Bytes}
 use Rattle.block.proofs.Entries.{number-or-string, no-code, number-narrow, within-string, width-some, width-most}
 use Rattle.block.proofs.Kept.{Kept}
-use Rattle.block.specs.Asked.{cut, lowest, highest, between, held-number}
+use Rattle.block.specs.Asked.{cut, lowest, highest, between}
 use Rattle.block.specs.Block.{row-width, within}
 use Rattle.entry.proofs.LimitsLaws.{rank-within, within-rank, within-number}
+use Rattle.entry.proofs.NumberLaws.{len-most}
 use Rattle.entry.proofs.RowLaws.{judgeable, between-finite}
-use Rattle.entry.specs.Entry.{number-verdict}
+use Rattle.entry.specs.Entry.{number-len, number-verdict}
 use Rattle.entry.specs.Limits.{Patterns, kind-verdict, verdict-code}
 use Rattle.entry.specs.declared.limits.Verdict.{Verdict}
 use Rattle.entry.specs.declared.limits.Verdict.the-variants.{Within}
@@ -36,7 +37,7 @@ module _ (r : Row) (u : RowRule r) (v : ℕ) (w : v < 4294967296) (h : r .kind �
   own = rank (r .kind) v
 
   patterns : r .kind ≡ REAL → Patterns (r .low) (r .high) v
-  patterns e = judgeable r refl refl refl v u (λ q. w) e
+  patterns e = judgeable r refl refl refl v u w e
 
   inside : low ≤ own → own ≤ high → within r v ≡ true
   unfolding within number-verdict verdict-code rank pick
@@ -77,12 +78,12 @@ module _ (r : Row) (k : Kept r) where
   string-judged h x v w = all-between (r .kind) (r .low) x h (k .rule .no-low (omega arith)) w ∙ within-string r v h
 
   pub held-judged : (values : List ℕ) → Bytes values
-      → between (lowest r) (highest r) (rank (r .kind) (held-number values (r .place) (r .kind))) ≡ within r (number values (r .place) (r .len))
-  unfolding held-number lowest highest
+      → between (lowest r) (highest r) (rank (r .kind) (number values (r .place) (number-len (r .kind)))) ≡ within r (number values (r .place) (r .len))
+  unfolding lowest highest
   held-judged values b =
       number-or-string (r .kind)
       (λ h. rw (le-leb (r .kind) REAL h, ← k .number-is h) (judged r (k .rule) (number values (r .place) (r .len)) (number-narrow values (r .place) (r .len) b (k .sized .short h)) h))
-      (λ h. rw (lt-leb (r .kind) REAL h) (string-judged h 0 _ (omega arith)))
+      (λ h. rw (lt-leb (r .kind) REAL h) (string-judged h _ _ (number-narrow values (r .place) (number-len (r .kind)) b (len-most (r .kind)))))
 
   -- the bits that are looked at are at most 32
   pub cut-is : r .kind ≤ REAL → cut r ≡ row-width r

@@ -7,9 +7,9 @@ use Prim.Native.Nat.{ℕ, zero, suc, _+_, _-_, _*_, _^_, _≤_, _<_}
 use native.Mathlib.Nat.{not-suc-le-zero, le-of-suc-le-suc, add-zero}
 use native.Mathlib.Numerals.{add-one}
 use native.Mathlib.Omega.{arith}
+use lib.Dec.{leb, leb→le}
 use lib.ListN.{length, take, drop, getD, set, length-map, drop-of-length-le}
 use lib.Seq.{take-suc, take-suc-set, getD-take}
-use borrow.Author.Tests.{le-leb}
 use Rattle.bits.specs.Bits.{bits, field, Bytes}
 use Rattle.block.proofs.Entries.{length-entry}
 use Rattle.block.proofs.Judged.{held-judged, cut-is, cut-fits, saved-judged}
@@ -17,14 +17,16 @@ use Rattle.block.proofs.Kept.{Kept, kept}
 use Rattle.block.proofs.Tables.{table-keeps, table-used}
 use Rattle.block.proofs.Walking.{Keeps, keeps-at, keeps-take, fits, part-long, length-saved, length-starts, length-numbers, widths-next, widths-all, saved-next, load-next, number-here, held-next, saved-front-next, start-here, start-next}
 use Rattle.block.proofs.Zeros.{zero-behind}
-use Rattle.block.specs.Asked.{Fields, cut, Cuts, Places, lowest, highest, Limits, Sized, fresh-bytes, entry-len, held-number, between, held-front, saved-front, saved-numbers, Front}
+use Rattle.block.specs.Asked.{Fields, cut, Cuts, Places, lowest, highest, Limits, Sized, fresh-bytes, entry-len, between, held-front, saved-front, saved-numbers, Front}
 use Rattle.block.specs.Block.{width, row-width, part, entry-bits, entry-bytes, within, nv-rows, widths, saved, load-rows, all-zero}
 use Rattle.block.specs.Saved.{nv}
+use Rattle.entry.specs.Entry.{number-len}
 use Rattle.table.proofs.Table.{rows-pass, row-rule}
-use Rattle.table.proofs.Walks.{lt-or-ge}
+use Rattle.table.proofs.Walks.{lt-or-ge, every-at}
 use Rattle.table.specs.Row.{Row, no-row, REAL}
 use Rattle.table.specs.Rows.{rows, row-count, at-row, nv-count, nv-end}
 use Rattle.table.specs.Rule.{rank}
+use Rattle.table.specs.Walk.{every}
 use Rattle.wire.proofs.SpliceLaws.{splice-then, splice-none}
 use Rattle.wire.specs.Little.{number}
 use Rattle.wire.specs.Splice.{splice}
@@ -49,10 +51,15 @@ pub nv-ends : 8 + widths nv ≡ nv-end
 unfolding rows nv-rows widths width
 nv-ends = refl
 
--- ---- a column at row i
-
 abbrev pub at-nv : ℕ → Row
 at-nv i = getD nv i no-row
+
+-- their numbers lie in the values, and so do the first four bytes of a string
+number-inside : (i : ℕ) → i < nv-count → at-nv i .place + number-len (at-nv i .kind) ≤ 1024
+unfolding rows nv-rows every number-len
+number-inside i h = leb→le _ _ (every-at (λ (r : Row). leb (r .place + number-len (r .kind)) 1024) nv no-row tt i (omega (arith, nv-length)))
+
+-- ---- a column at row i
 
 map-at : (f : Row → ℕ) (rs : List Row) (i : ℕ) → i < length rs → getD (map f rs) i 0 ≡ f (getD rs i no-row)
 map-at f [] i h = absurd (not-suc-le-zero h)
@@ -141,6 +148,9 @@ module _ {i kind at width' : ℕ} (g : Here i kind at width') where
   pub sized-here : {place : ℕ} → place ≡ at-nv i .place → Sized kind (entry-len kind width') place
   sized-here p = rw (← len-here, g .kind-is, p) (row-kept .sized)
 
+  pub number-room : {place : ℕ} → place ≡ at-nv i .place → place + number-len kind ≤ 1024
+  number-room p = rw (p, g .kind-is) (number-inside i (g .there))
+
   pub room : at + width' ≤ nv-end
   room = let a = g .at-is in let w = g .width-is in omega (arith, widths-all nv i inside, nv-ends)
 
@@ -181,7 +191,7 @@ module _ {i kind at width' : ℕ} (g : Here i kind at width') where
     by-rank : (x : ℕ) → v ≡ x → between (lowest (at-nv i)) (highest (at-nv i)) (rank (at-nv i .kind) x) ≡ b
     by-rank x e = sym (says ∙ rw (low-here, high-here, g .kind-is, e)) ∙ is
 
-    pub held-within : (values : List ℕ) {place : ℕ} → place ≡ at-nv i .place → Bytes values → v ≡ held-number values place kind → within (at-nv i) (number values (at-nv i .place) (at-nv i .len)) ≡ b
+    pub held-within : (values : List ℕ) {place : ℕ} → place ≡ at-nv i .place → Bytes values → v ≡ number values place (number-len kind) → within (at-nv i) (number values (at-nv i .place) (at-nv i .len)) ≡ b
     held-within values p hb e = sym (held-judged (at-nv i) row-kept values hb) ∙ by-rank _ (e ∙ rw (p, g .kind-is))
 
     pub saved-within : (block : List ℕ) {c : ℕ} → c ≡ cut (at-nv i) → v ≡ field (bits block) at c → within (at-nv i) (field (bits block) (8 + widths (take i nv)) (row-width (at-nv i))) ≡ b
@@ -210,11 +220,11 @@ module _ {i kind at width' : ℕ} (g : Here i kind at width') where
 
   -- an entry is saved: it fits its width, the block is zero from there on, and one more is in it
   module _ {place : ℕ} (p : place ≡ at-nv i .place) (values : List ℕ) (lv : length values ≡ 1024) where
-    pub fits-here : Bytes values → within (at-nv i) (number values (at-nv i .place) (at-nv i .len)) ≡ true → {v : ℕ} → v ≡ held-number values place kind → kind ≤ REAL → v < 2 ^ width'
-    unfolding held-number number
+    pub fits-here : Bytes values → within (at-nv i) (number values (at-nv i .place) (at-nv i .len)) ≡ true → {v : ℕ} → v ≡ number values place (number-len kind) → kind ≤ REAL → v < 2 ^ width'
+    unfolding number
     fits-here hb e f h =
         let k : at-nv i .kind ≤ REAL = let q = g .kind-is in omega arith in
-        rw (f, le-leb kind REAL h, g .width-is, p, g .kind-is, ← row-kept .number-is k) (fits values (at-nv i) row-kept hb e)
+        rw (f, g .width-is, p, g .kind-is, ← row-kept .number-is k) (fits values (at-nv i) row-kept hb e)
 
     before-long : length (saved values (take i nv)) ≡ widths (take i nv)
     before-long = length-saved values (take i nv) (keeps-take nv i nv-keep) lv

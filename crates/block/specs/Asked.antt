@@ -3,12 +3,13 @@ use mathlib.Core.Bool.{Bool, cond, _&&_}
 use mathlib.Core.List.{List, [], _∷_, map}
 use mathlib.Core.Path.{_≡_}
 use Prim.Native.Nat.{ℕ, suc, _+_, _/_, _≤_}
-use lib.Dec.{leb, eqb}
+use lib.Dec.{leb}
 use lib.ListN.{take}
 use Rattle.bits.specs.Bits.{field}
 use Rattle.block.specs.Block.{row-width, within}
 use Rattle.block.specs.Saved.{nv}
-use Rattle.table.specs.Row.{Row, USINT, UINT, REAL}
+use Rattle.entry.specs.Entry.{number-len}
+use Rattle.table.specs.Row.{Row, REAL}
 use Rattle.table.specs.Rows.{nv-end}
 use Rattle.table.specs.Rule.{rank}
 use Rattle.wire.specs.Little.{number}
@@ -47,10 +48,6 @@ pub record Limits (lows highs : List ℕ) : Type 0 where
 
 -- ---- an entry
 
--- the bytes of a number that the block can hold, by its type
-unfoldable pub number-len : ℕ → ℕ
-number-len kind = cond (leb kind USINT) 1 (cond (eqb kind UINT) 2 4)
-
 -- the bytes of an entry, by its type and its bits
 unfoldable pub entry-len : ℕ → ℕ → ℕ
 entry-len kind width = cond (leb kind REAL) (number-len kind) (width / 8)
@@ -61,10 +58,6 @@ pub record Sized (kind len place : ℕ) : Type 0 where
   pub some : 1 ≤ len
   pub short : kind ≤ REAL → len ≤ 4
   pub inside : place + len ≤ 1024
-
--- its number in the values; a string has none, and 0 stands for it
-unfoldable pub held-number : List ℕ → ℕ → ℕ → ℕ
-held-number values place kind = cond (leb kind REAL) (number values place (number-len kind)) 0
 
 unfoldable pub between : ℕ → ℕ → ℕ → Bool
 between low high x = leb low x && leb x high

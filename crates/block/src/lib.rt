@@ -8,13 +8,14 @@ ghost use mathlib.Core.List.{_++_};
 ghost use Prim.Native.Nat.{_+_, _-_, _*_, _^_, _≤_, _<_};
 ghost use lib.ListN.{length, take, drop, replicate};
 ghost use Rattle.bits.specs.Bits.{bits, msb, field};
+ghost use Rattle.entry.specs.Entry.{number-len};
 ghost use Rattle.table.specs.Row.{REAL};
 ghost use Rattle.table.specs.Rows.{nv-count, nv-end};
-ghost use Rattle.wire.specs.Little.{little};
+ghost use Rattle.wire.specs.Little.{little, number};
 ghost use Rattle.wire.specs.Splice.{splice};
 ghost use Rattle.block.specs.Block.{LAYOUT, BAG552, width as width-by, entry-bits, entry-bytes, saved, load-rows, all-zero};
 ghost use Rattle.block.specs.Saved.{nv, storable, stored, loadable, loaded};
-ghost use Rattle.block.specs.Asked.{Fields, Cuts, Places, Limits, Sized, fresh-bytes, number-len, entry-len, held-number, between, held-front, saved-front, Front};
+ghost use Rattle.block.specs.Asked.{Fields, Cuts, Places, Limits, Sized, fresh-bytes, entry-len, between, held-front, saved-front, Front};
 
 const LAYOUT: u32 = 1;
 
@@ -24,23 +25,6 @@ const MODEL: u32 = 1;
 const FRESH: usize = (columns::NV_END + 7) / 8 + 8;
 
 // ---- A number.
-
-// The number of an entry in the values, 0 for a string.
-fn held_number(values: &[u8], place: usize, kind: u8) -> u32
-    requires { ⌜ (kind ≤ REAL → place + number-len kind ≤ length (now values)) ⌝ }
-    ensures { λ r. ⌜ r ≡ held-number (now (values .entry)) place kind ⌝ }
-{
-    if 5 < kind {
-        return 0;
-    }
-    if 2 < kind {
-        return wire::word_at(values, place);
-    }
-    if kind == 2 {
-        return wire::number_at(values, place, 2) as u32;
-    }
-    wide::to_u32(wire::byte_at(values, place))
-}
 
 fn put_number(values: &mut [u8], place: usize, kind: u8, v: u32)
     requires { ⌜ (place + number-len kind ≤ length (now values)) × (v < 2 ^ (8 * number-len kind)) ⌝ }
@@ -97,7 +81,7 @@ fn save_entry(
     at: usize,
     width: usize,
 )
-    requires { ⌜ Sized kind (entry-len kind width) place × (width ≡ width-by kind (entry-len kind width)) × (length (now values) ≡ 1024) × (length (now block) ≡ fresh-bytes) × (at + width ≤ nv-end) × (v ≡ held-number (now values) place kind) × (kind ≤ REAL → v < 2 ^ width) × (all-zero (drop at (bits (now block))) ≡ true) ⌝ }
+    requires { ⌜ Sized kind (entry-len kind width) place × (width ≡ width-by kind (entry-len kind width)) × (length (now values) ≡ 1024) × (length (now block) ≡ fresh-bytes) × (at + width ≤ nv-end) × (v ≡ number (now values) place (number-len kind)) × (kind ≤ REAL → v < 2 ^ width) × (all-zero (drop at (bits (now block))) ≡ true) ⌝ }
     ensures { λ _. ⌜ bits (now (block .exit)) ≡ splice (bits (now (block .entry))) at (entry-bits kind (entry-len kind width) (take (entry-len kind width) (drop place (now (values .entry))))) ⌝ }
 {
     if 5 < kind {
@@ -180,7 +164,7 @@ fn save_entries(
     while i < columns::NV_ROWS {
         let kind = kinds[i];
         let place = wide::pair_to_usize(places[i]);
-        let v = held_number(values, place, kind);
+        let v = entry::number_by(values, place, kind);
         let x = limits::rank_of(kind, v);
         if !is_between(lows[i], highs[i], x) {
             return i;

@@ -167,8 +167,7 @@ fn judge_layout(v: u32) -> Verdict
 fn judge_level(v: u32) -> Verdict
     ensures { λ r. ⌜ r ≡ level-verdict v ⌝ }
 {
-    let wide = v as u64;
-    entry::limits::judge_number(5, 0, 0x44BB8000, wide)
+    entry::limits::judge_number(5, 0, 0x44BB8000, v)
 }
 
 fn first(a: Verdict, b: Verdict) -> Verdict

@@ -62,6 +62,10 @@ whole-within low high v e =
     let f = no-fault false (ltb high v) (ltb v low) e in
     (ltb-false v low (f .2), ltb-false high v (f .1))
 
+pub whole-between : (low high v : ℕ) → low ≤ v → v ≤ high → whole-verdict low high v ≡ Within
+unfolding whole-verdict first-fault
+whole-between low high v a b = simp (le-ltb high v b, le-ltb v low a)
+
 -- what `Within` says of a whole number
 module _ (k low high v : ℕ) (h : k < REAL) where
   pub within-low : kind-verdict k low high v ≡ Within → low ≤ v
@@ -89,8 +93,7 @@ verdict-by-rank k low high v h p n =
 -- So a number whose rank lies between those of the limits is within them, and a number within them has such a rank.
 module _ (k low high v : ℕ) (h : k ≤ REAL) (p : k ≡ REAL → Patterns low high v) (n : k ≡ REAL → magnitude v ≤ 2139095040) where
   pub rank-within : rank k low ≤ rank k v → rank k v ≤ rank k high → kind-verdict k low high v ≡ Within
-  unfolding whole-verdict first-fault
-  rank-within a b = verdict-by-rank k low high v h p n ∙ simp (le-ltb (rank k high) (rank k v) b, le-ltb (rank k v) (rank k low) a)
+  rank-within a b = verdict-by-rank k low high v h p n ∙ whole-between (rank k low) (rank k high) (rank k v) a b
 
   pub within-rank : kind-verdict k low high v ≡ Within → (rank k low ≤ rank k v) × (rank k v ≤ rank k high)
   within-rank e = whole-within (rank k low) (rank k high) (rank k v) (sym (verdict-by-rank k low high v h p n) ∙ e)

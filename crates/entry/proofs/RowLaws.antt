@@ -4,20 +4,21 @@ use mathlib.Core.List.{List}
 use mathlib.Core.Logic.{⊎-elim}
 use Prim.Native.Nat.{ℕ, _+_, _*_, _-_, _%_, _^_, _<_, _≤_}
 use native.Mathlib.Omega.{arith}
-use lib.ListN.{length, take, drop}
+use lib.ListN.{length}
 use lib.Seq.{take-all}
 use borrow.Author.Tests.{le-leb, lt-leb, lt-ltb, le-ltb, eq-eqb}
 use Rattle.wire.specs.Little.{little, number, fromLittle}
 use Rattle.wire.proofs.LittleLaws.{Bytes, number-lt, from-little}
-use Rattle.table.specs.Row.{Row, BOOL, REAL, CARD}
+use Rattle.table.specs.Row.{Row, BOOL, ULINT, REAL, CARD}
 use Rattle.table.specs.Rule.{pick, held, rank, real-rank}
 use Rattle.table.proofs.Walks.{lt-or-ge}
 use Rattle.table.proofs.Rules.{RowRule}
-use Rattle.table.proofs.Widths.{real-width}
+use Rattle.table.proofs.Widths.{ulint-width, real-width}
 use Rattle.entry.specs.Limits.{Patterns, kind-verdict}
-use Rattle.entry.specs.Entry.{held-by, entry-of, default-of, number-verdict, row-verdict}
+use Rattle.entry.specs.Entry.{held-by, default-of, number-len, number-verdict, row-verdict}
 use Rattle.entry.specs.declared.limits.Verdict.the-variants.{Within}
-use Rattle.entry.proofs.LimitsLaws.{kind-none, rank-within, within-high}
+use Rattle.entry.proofs.LimitsLaws.{kind-whole, kind-none, whole-between, rank-within, within-high}
+use Rattle.entry.proofs.NumberLaws.{number-long}
 
 -- ---- widths
 
@@ -57,25 +58,48 @@ real-patterns r u v e h =
 
 -- for a type and limits that the code has read: what `judge_number` asks, and what its answer says of the row
 module _ (r : Row) {k l h : ℕ} (kind : k ≡ r .kind) (low : l ≡ r .low) (high : h ≡ r .high) (v : ℕ) where
-  pub judgeable : RowRule r → (r .kind ≡ REAL → v < 4294967296) → k ≡ REAL → Patterns l h v
-  judgeable u short e = rw (low, high) (real-patterns r u v (sym kind ∙ e) (short (sym kind ∙ e)))
+  pub judgeable : RowRule r → v < 4294967296 → k ≡ REAL → Patterns l h v
+  judgeable u short e = rw (low, high) (real-patterns r u v (sym kind ∙ e) short)
 
   pub verdict-from : kind-verdict k l h v ≡ number-verdict r v
   unfolding number-verdict
   verdict-from = rw (kind, low, high)
-
-pub real-short : (r : Row) → RowRule r → (l : List ℕ) (at : ℕ) → Bytes l → r .kind ≡ REAL → number l at (r .len) < 4294967296
-real-short r u l at b e = rw (real-width r u e) (number-lt l at 4 b)
 
 -- a row that is no number is within, whatever number is asked
 pub no-number : (r : Row) (v : ℕ) → REAL < r .kind → Within ≡ number-verdict r v
 unfolding number-verdict
 no-number r v h = kind-none (r .kind) (r .low) (r .high) v h
 
--- bytes of the row's length are judged by their number
-pub bytes-verdict : (r : Row) (bytes : List ℕ) → length bytes ≡ r .len → number-verdict r (number bytes 0 (r .len)) ≡ row-verdict r bytes
-unfolding row-verdict number
-bytes-verdict r bytes e = ap (λ (l : List ℕ). number-verdict r (fromLittle l)) (take-all (r .len) bytes (omega arith))
+-- bytes of the row's length, and its type as the code has read it
+module _ (r : Row) (u : RowRule r) (bytes : List ℕ) (long : length bytes ≡ r .len) {k : ℕ} (kind : k ≡ r .kind) where
+  whole : number bytes 0 (r .len) ≡ fromLittle bytes
+  unfolding number
+  whole = ap fromLittle (take-all (r .len) bytes (omega arith))
+
+  -- they are judged by the number that the type has
+  module _ (h : k ≤ REAL) (d : k ≡ ULINT → ⊥) where
+    len-is : r .len ≡ number-len k
+    len-is = number-long r u (omega arith) (λ e. d (kind ∙ e)) ∙ ap number-len (sym kind)
+
+    pub number-there : 0 + number-len k ≤ length bytes
+    number-there = omega (arith, len-is)
+
+    pub bytes-verdict : {v : ℕ} → v ≡ number bytes 0 (number-len k) → number-verdict r v ≡ row-verdict r bytes
+    unfolding row-verdict
+    bytes-verdict e = ap (number-verdict r) (e ∙ ap (number bytes 0) (sym len-is) ∙ whole)
+
+  -- a ULINT takes them all, and so does what is no number
+  ulint-within : Bytes bytes → r .kind ≡ ULINT → Within ≡ row-verdict r bytes
+  unfolding row-verdict number-verdict
+  ulint-within b e =
+      let n : fromLittle bytes < 2 ^ 64 = rw (whole, ulint-width r u e) at (number-lt bytes 0 (r .len) b) in
+      sym (sym (kind-whole (r .kind) (r .low) (r .high) (fromLittle bytes) (omega arith))
+      ∙ whole-between (r .low) (r .high) (fromLittle bytes) (omega (arith, u .ulint-low e)) (omega (arith, u .ulint-high e)))
+
+  pub all-within : Bytes bytes → ULINT ≤ k → (k ≡ REAL → ⊥) → Within ≡ row-verdict r bytes
+  unfolding row-verdict
+  all-within b g d =
+      ⊎-elim (λ l. ulint-within b (omega arith)) (λ n. no-number r _ (omega arith)) (lt-or-ge k REAL)
 
 -- ---- the default
 

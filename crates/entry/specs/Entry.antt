@@ -1,11 +1,12 @@
 -- One row's entry in the values: what it reads as, what storing and its default make of the values, and its judgement.
+use mathlib.Core.Bool.{cond}
 use mathlib.Core.List.{List, [], _∷_}
 use Prim.Native.Nat.{ℕ}
-use lib.Dec.{leb}
+use lib.Dec.{leb, eqb}
 use lib.ListN.{take, drop, replicate}
 use Rattle.wire.specs.Splice.{splice}
 use Rattle.wire.specs.Little.{little, fromLittle}
-use Rattle.table.specs.Row.{Row, CARD}
+use Rattle.table.specs.Row.{Row, USINT, UINT, CARD}
 use Rattle.table.specs.Rule.{pick, held}
 use Rattle.entry.specs.Limits.{kind-verdict}
 use Rattle.entry.specs.declared.limits.Verdict.{Verdict}
@@ -37,6 +38,10 @@ defaulted r values = stored r values (default-of r)
 unfoldable pub defaults : List Row → List ℕ → List ℕ
 defaults [] values = values
 defaults (r ∷ rs) values = defaults rs (defaulted r values)
+
+-- the bytes that are looked at as a number, by the type: a ULINT's are not asked for, and of a string they are the first four
+unfoldable pub number-len : ℕ → ℕ
+number-len kind = cond (leb kind USINT) 1 (cond (eqb kind UINT) 2 4)
 
 -- a number against a row's limits
 unfoldable pub number-verdict : Row → ℕ → Verdict

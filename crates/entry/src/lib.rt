@@ -6,11 +6,12 @@ use wire::wide;
 ghost use mathlib.Core.Path.{_≡_};
 ghost use Prim.Native.Nat.{_+_, _<_, _≤_};
 ghost use lib.ListN.{length, replicate};
-ghost use Rattle.table.specs.Row.{REAL};
+ghost use Rattle.wire.specs.Little.{number};
+ghost use Rattle.table.specs.Row.{ULINT};
 ghost use Rattle.table.specs.Rows.{rows, row-count, at-row};
 ghost use Rattle.table.specs.Rule.{held};
 ghost use Rattle.entry.specs.Words.{worded, Room};
-ghost use Rattle.entry.specs.Entry.{held-by, copied, stored, defaulted, defaults, number-verdict, row-verdict};
+ghost use Rattle.entry.specs.Entry.{held-by, copied, stored, defaulted, defaults, number-len, number-verdict, row-verdict};
 
 // The bytes that an entry has in the values, by its type and length.
 fn held_by(kind: u8, len: usize) -> usize
@@ -31,22 +32,36 @@ pub fn held_of(row: usize) -> usize
 
 // ---- judging
 
-// A number of the row, whose type is known.
-fn judge_kind(kind: u8, row: usize, v: u64) -> Verdict
-    requires { ⌜ (row < row-count) × (kind ≡ at-row row .kind) × (kind ≡ REAL → v < 4294967296) ⌝ }
+// The number that stands at a place, by its type.
+pub fn number_by(bytes: &[u8], at: usize, kind: u8) -> u32
+    requires { ⌜ at + number-len kind ≤ length (now bytes) ⌝ }
+    ensures { λ r. ⌜ r ≡ number (now (bytes .entry)) at (number-len kind) ⌝ }
+{
+    if 2 < kind {
+        return wire::word_at(bytes, at);
+    }
+    if kind == 2 {
+        return wire::pair_at(bytes, at) as u32;
+    }
+    wide::to_u32(wire::byte_at(bytes, at))
+}
+
+// A number of the row, whose type is known and is no ULINT.
+fn judge_kind(kind: u8, row: usize, v: u32) -> Verdict
+    requires { ⌜ (row < row-count) × (kind ≡ at-row row .kind) × (kind ≡ ULINT → ⊥) ⌝ }
     ensures { λ r. ⌜ r ≡ number-verdict (at-row row) v ⌝ }
 {
     let both = table::field::limits_of(row);
     limits::judge_number(kind, both.low, both.high, v)
 }
 
-// A value of the row's type and length: only the bytes of a number are looked at.
+// A value of the row's type and length. Only the bytes of a number are looked at, and a ULINT takes every number.
 pub fn judge(row: usize, kind: u8, value: &[u8]) -> Verdict
     requires { ⌜ (row < row-count) × (kind ≡ at-row row .kind) × (length (now value) ≡ at-row row .len) ⌝ }
     ensures { λ r. ⌜ r ≡ row-verdict (at-row row) (now (value .entry)) ⌝ }
 {
     match kind {
-        0..=5 => judge_kind(kind, row, wire::number_at(value, 0, value.len())),
+        0..=3 | 5 => judge_kind(kind, row, number_by(value, 0, kind)),
         _ => Verdict::Within,
     }
 }

@@ -1,5 +1,4 @@
 // A number against the limits of its row.
-use wire::wide;
 ghost use mathlib.Core.Path.{_≡_};
 ghost use Rattle.entry.specs.Limits.{Patterns, whole-verdict, real-verdict, kind-verdict, verdict-code};
 ghost use Rattle.table.specs.Row.{REAL};
@@ -37,7 +36,7 @@ pub fn rank_of(kind: u8, v: u32) -> u32
     4294967295 - v + 1
 }
 
-fn judge_whole(low: u64, high: u64, v: u64) -> Verdict
+fn judge_whole(low: u32, high: u32, v: u32) -> Verdict
     ensures { λ r. ⌜ r ≡ whole-verdict low high v ⌝ }
 {
     if high < v {
@@ -57,21 +56,17 @@ fn judge_real(low: u32, high: u32, v: u32) -> Verdict
     if 2139095040 < v % 2147483648 {
         return Verdict::NotANumber;
     }
-    judge_whole(
-        wide::word_to_u64(rank_of(5, low)),
-        wide::word_to_u64(rank_of(5, high)),
-        wide::word_to_u64(rank_of(5, v)),
-    )
+    judge_whole(rank_of(5, low), rank_of(5, high), rank_of(5, v))
 }
 
 // Any number of a row against that row's kind and limits.
-pub fn judge_number(kind: u8, low: u64, high: u64, v: u64) -> Verdict
+pub fn judge_number(kind: u8, low: u32, high: u32, v: u32) -> Verdict
     requires { ⌜ (kind ≡ REAL → Patterns low high v) ⌝ }
     ensures { λ r. ⌜ r ≡ kind-verdict kind low high v ⌝ }
 {
     match kind {
         0..=4 => judge_whole(low, high, v),
-        5 => judge_real(low as u32, high as u32, v as u32),
+        5 => judge_real(low, high, v),
         _ => Verdict::Within,
     }
 }

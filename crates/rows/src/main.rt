@@ -4,14 +4,19 @@ use io::print_decimal;
 use io::write_all;
 use libc::STDOUT_FILENO;
 use table::field;
+ghost use mathlib.Core.Path.{_≡_};
 ghost use Prim.Native.Nat.{_≤_, _<_};
-ghost use Rattle.table.specs.Rows.{row-count};
+ghost use Rattle.table.specs.Rows.{row-count, at-row};
 
 fn wide(x: u8) -> u64 {
     x as u64
 }
 
 fn wide16(x: u16) -> u64 {
+    x as u64
+}
+
+fn wide32(x: u32) -> u64 {
     x as u64
 }
 
@@ -68,20 +73,31 @@ fn print_access(access: u8, nv: u8) {
     }
 }
 
+// The least and the greatest number of a row. A ULINT takes every number.
+fn print_limits(row: usize, kind: u8, digits: usize)
+    requires { ⌜ (row < row-count) × (kind ≡ at-row row .kind) × (digits ≤ 16) ⌝ }
+{
+    if kind == 4 {
+        write_all(STDOUT_FILENO, b" 0000000000000000 FFFFFFFFFFFFFFFF ");
+        return;
+    }
+    let both = field::limits_of(row);
+    write_all(STDOUT_FILENO, b" ");
+    print_hex(wide32(both.low), digits);
+    write_all(STDOUT_FILENO, b" ");
+    print_hex(wide32(both.high), digits);
+    write_all(STDOUT_FILENO, b" ");
+}
+
 // Only numbers have limits and a default: of len bytes, so at most eight.
-fn print_limits(row: usize, len: usize)
-    requires { ⌜ row < row-count ⌝ }
+fn print_number(row: usize, kind: u8, len: usize)
+    requires { ⌜ (row < row-count) × (kind ≡ at-row row .kind) ⌝ }
 {
     if 8 < len {
         write_all(STDOUT_FILENO, b" - - -\n");
         return;
     }
-    let both = field::limits_of(row);
-    write_all(STDOUT_FILENO, b" ");
-    print_hex(both.low, 2 * len);
-    write_all(STDOUT_FILENO, b" ");
-    print_hex(both.high, 2 * len);
-    write_all(STDOUT_FILENO, b" ");
+    print_limits(row, kind, 2 * len);
     print_hex(field::def_of(row), 2 * len);
     write_all(STDOUT_FILENO, b"\n");
 }
@@ -100,7 +116,7 @@ fn print_row(row: usize)
 
 // Length and place, and what only numbers have.
 fn print_extent(row: usize, kind: u8)
-    requires { ⌜ row < row-count ⌝ }
+    requires { ⌜ (row < row-count) × (kind ≡ at-row row .kind) ⌝ }
 {
     let len = field::len_of(row);
     print_decimal(STDOUT_FILENO, len as u64);
@@ -111,7 +127,7 @@ fn print_extent(row: usize, kind: u8)
         write_all(STDOUT_FILENO, b"-");
     }
     if kind < 6 {
-        print_limits(row, len);
+        print_number(row, kind, len);
     } else {
         write_all(STDOUT_FILENO, b" - - -\n");
     }

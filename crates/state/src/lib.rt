@@ -55,7 +55,7 @@ pub fn record_at(state: &[u8], at: usize) -> Transfer
 {
     let mut held = [0u8; 64];
     wire::copy_at(&mut held, 0, state, at, 64);
-    let row = wire::number_at(state, at + 64, 2) as usize;
+    let row = wire::pair_at(state, at + 64) as usize;
     let direction = direction_of(wire::byte_at(state, at + 66));
     let len = wide::to_usize(wire::byte_at(state, at + 67));
     let place = wide::to_usize(wire::byte_at(state, at + 68));

@@ -1,14 +1,14 @@
 -- A column that is lent has each row's field at its number. Assumes nothing.
-use mathlib.Core.Path.{_≡_, refl, sym, ap, _∙_}
-use mathlib.Core.Bool.{Bool, true, false}
-use mathlib.Core.List.{List, map}
+use mathlib.Core.Path.{_≡_, sym, ap, _∙_}
+use mathlib.Core.List.{List}
 use Prim.Native.Nat.{ℕ, _<_}
-use native.Mathlib.Omega.{arith}
-use lib.Dec.{T, ltb, ltb→lt}
+use lib.Dec.{eqb, ltb, ltb→lt}
 use lib.ListN.{length, getD, length-map, List·getD-map}
-use Rattle.table.specs.Row.{Row, no-row}
+use borrow.Author.Tests.{ne-eqb}
+use Rattle.table.specs.Row.{Row, no-row, ULINT}
 use Rattle.table.specs.Rows.{rows, row-count, at-row}
 use Rattle.table.specs.Columns.{column}
+use Rattle.table.specs.Rule.{pick}
 use Rattle.table.specs.Walk.{every}
 use Rattle.table.proofs.Pairs.{pairs, minima, maxima, pair-count}
 use Rattle.table.proofs.Table.{rows-length}
@@ -27,14 +27,17 @@ module _ (f : Row → ℕ) where
   unfolding column
   column-long l e = ap length e ∙ length-map rows f ∙ rows-length
 
--- the limits of a row are those of its pair
+-- the limits of a row are those of its pair, but for a ULINT's
 pub low-by-pair : (k : ℕ) → getD minima (getD pairs k 0) 0 ≡ at-row k .low
 unfolding rows pairs minima
 low-by-pair k = sym (List·getD-map (λ (p : ℕ). getD minima p 0) pairs k 0) ∙ List·getD-map (λ (r : Row). r .low) rows k no-row
 
-pub high-by-pair : (k : ℕ) → getD maxima (getD pairs k 0) 0 ≡ at-row k .high
-unfolding rows pairs maxima
-high-by-pair k = sym (List·getD-map (λ (p : ℕ). getD maxima p 0) pairs k 0) ∙ List·getD-map (λ (r : Row). r .high) rows k no-row
+pub high-by-pair : (k : ℕ) → (at-row k .kind ≡ ULINT → ⊥) → getD maxima (getD pairs k 0) 0 ≡ at-row k .high
+unfolding rows pairs maxima pick
+high-by-pair k d =
+    sym (List·getD-map (λ (p : ℕ). getD maxima p 0) pairs k 0)
+    ∙ List·getD-map (λ (r : Row). pick (eqb (r .kind) ULINT) 0 (r .high)) rows k no-row
+    ∙ rw (ne-eqb (at-row k .kind) ULINT d)
 
 pub pair-there : (k : ℕ) → k < row-count → getD pairs k 0 < pair-count
 unfolding pairs every

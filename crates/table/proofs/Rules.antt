@@ -36,6 +36,8 @@ pub record RowRule (r : Row) : Type 0 where
   pub high-fits : r .kind ≤ REAL → r .high < 2 ^ (8 * r .len)
   pub def-fits : r .kind ≤ REAL → r .def < 2 ^ (8 * r .len)
   pub bool-high : r .kind ≡ BOOL → r .high ≤ 1
+  pub ulint-low : r .kind ≡ ULINT → r .low ≡ 0
+  pub ulint-high : r .kind ≡ ULINT → r .high ≡ 0xFFFFFFFFFFFFFFFF
   pub no-low : STRING ≤ r .kind → r .low ≡ 0
   pub no-high : STRING ≤ r .kind → r .high ≡ 0
   pub no-def : STRING ≤ r .kind → r .def ≡ 0
@@ -75,9 +77,11 @@ row-ok→rule r t =
       high-fits = λ n. ltb→lt _ _ (made (leb (r .kind) REAL) _ (test 16) (le-leb _ _ n));
       def-fits = λ n. ltb→lt _ _ (made (leb (r .kind) REAL) _ (test 17) (le-leb _ _ n));
       bool-high = λ e. leb→le _ _ (made (eqb (r .kind) BOOL) _ (test 18) (eq-eqb _ _ e));
-      no-low = λ s. eqb→eq _ _ (made (leb STRING (r .kind)) _ (test 19) (le-leb _ _ s));
-      no-high = λ s. eqb→eq _ _ (made (leb STRING (r .kind)) _ (test 20) (le-leb _ _ s));
-      no-def = λ s. eqb→eq _ _ (made (leb STRING (r .kind)) _ (test 21) (le-leb _ _ s));
+      ulint-low = λ e. eqb→eq _ _ (both-left (eqb (r .low) 0) _ (made (eqb (r .kind) ULINT) _ (test 19) (eq-eqb _ _ e)));
+      ulint-high = λ e. eqb→eq _ _ (both-right (eqb (r .low) 0) _ (made (eqb (r .kind) ULINT) _ (test 19) (eq-eqb _ _ e)));
+      no-low = λ s. eqb→eq _ _ (made (leb STRING (r .kind)) _ (test 20) (le-leb _ _ s));
+      no-high = λ s. eqb→eq _ _ (made (leb STRING (r .kind)) _ (test 21) (le-leb _ _ s));
+      no-def = λ s. eqb→eq _ _ (made (leb STRING (r .kind)) _ (test 22) (le-leb _ _ s));
     }
 
 -- the keys rise, and an earlier row's place ends where a later one's begins, or before

@@ -1,6 +1,7 @@
 -- THE TABLE'S RULE, as one test over a whole table: "(index, subindex) strictly rising, length 1 to 64, places inside 1,024
 -- bytes and not overlapping (the card and command words have no place), minimum not above maximum, default within limits, the
--- NV entries fitting into the saved block"; "BOOL takes one byte, 0 or 1"; what is no number has no limits. Assumes nothing.
+-- NV entries fitting into the saved block"; "BOOL takes one byte, 0 or 1"; a ULINT takes every number of its 8 bytes; what is no
+-- number has no limits. Assumes nothing.
 use mathlib.Core.Bool.{Bool, true, false}
 use mathlib.Core.List.{List, [], _∷_}
 use Prim.Native.Nat.{ℕ, _+_, _*_, _%_, _-_, _^_}
@@ -76,6 +77,7 @@ row-tests r =
     pick (is-number r) (ltb (r .high) (2 ^ (8 * r .len))) true ∷
     pick (is-number r) (ltb (r .def) (2 ^ (8 * r .len))) true ∷
     pick (eqb (r .kind) BOOL) (leb (r .high) 1) true ∷
+    pick (eqb (r .kind) ULINT) (both (eqb (r .low) 0) (eqb (r .high) 0xFFFFFFFFFFFFFFFF)) true ∷
     pick (leb STRING (r .kind)) (eqb (r .low) 0) true ∷
     pick (leb STRING (r .kind)) (eqb (r .high) 0) true ∷
     pick (leb STRING (r .kind)) (eqb (r .def) 0) true ∷

@@ -3,6 +3,7 @@ use crate::columns;
 use wire::wide;
 ghost use mathlib.Core.Path.{_≡_};
 ghost use Prim.Native.Nat.{_<_};
+ghost use Rattle.table.specs.Row.{ULINT};
 ghost use Rattle.table.specs.Rows.{row-count, at-row};
 ghost use Rattle.table.specs.Columns.{shape, kind-in, access-in, nv-in, len-in};
 
@@ -94,14 +95,14 @@ pub fn def_of(row: usize) -> u64
     wide::word_to_u64(columns::DEFAULT[row])
 }
 
-// The least and the greatest number that a row takes.
+// The least and the greatest number that a row takes. A ULINT takes every number, so it has none here.
 pub struct Limits {
-    pub low: u64,
-    pub high: u64,
+    pub low: u32,
+    pub high: u32,
 }
 
 pub fn limits_of(row: usize) -> Limits
-    requires { ⌜ row < row-count ⌝ }
+    requires { ⌜ (row < row-count) × (at-row row .kind ≡ ULINT → ⊥) ⌝ }
     ensures { λ r. ⌜ (r .low ≡ at-row row .low) × (r .high ≡ at-row row .high) ⌝ }
 {
     let pair = wide::to_usize(columns::LIMITS[row]);

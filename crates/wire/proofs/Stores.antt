@@ -1,4 +1,4 @@
--- Bytes stored and read with no loop: one byte and four. Assumes nothing.
+-- Bytes stored and read with no loop: one byte, two and four. Assumes nothing.
 use mathlib.Core.Path.{_≡_, _∙_}
 use mathlib.Core.List.{List, [], _∷_, append-assoc}
 use Prim.Native.Nat.{ℕ, suc, _+_, _*_, _/_, _%_, _<_, _≤_}
@@ -34,6 +34,11 @@ four-stores l at v h =
 
 pub one-byte : (l : List ℕ) (at : ℕ) → number l at 1 ≡ getD l at 0
 one-byte l at = number-suc l at 0 ∙ rw number-none (omega arith)
+
+pub two-bytes : (l : List ℕ) (at : ℕ) → number l at 2 ≡ getD l at 0 + getD l (at + 1) 0 * 256
+two-bytes l at =
+    let e : at + 1 ≡ suc at = omega arith in
+    rw (e, number-suc l at 1, number-suc l (suc at) 0, number-none) (omega arith)
 
 pub four-bytes : (l : List ℕ) (at : ℕ) → number l at 4 ≡ getD l at 0 + getD l (at + 1) 0 * 256 + getD l (at + 2) 0 * 65536 + getD l (at + 3) 0 * 16777216
 four-bytes l at =

@@ -10,20 +10,7 @@ ghost use Rattle.wire.specs.Splice.{splice};
 ghost use Rattle.wire.specs.Little.{little, number};
 ghost use Rattle.wire.specs.Real.{real};
 
-// ---- whole numbers of any width
-
-pub fn number_at(s: &[u8], at: usize, len: usize) -> u64
-    requires { ⌜ (len ≤ 8) × (at + len ≤ length (now s)) ⌝ }
-    ensures { λ r. ⌜ r ≡ number (now (s .entry)) at len ⌝ }
-{
-    let mut v: u64 = 0;
-    let mut i = len;
-    while 0 < i {
-        i -= 1;
-        v = v * 256 + wide::to_u64(s[at + i]);
-    }
-    v
-}
+// ---- a whole number of any width
 
 pub fn put_number(s: &mut [u8], at: usize, len: usize, v: u64)
     requires { ⌜ at + len ≤ length (now s) ⌝ }
@@ -38,7 +25,7 @@ pub fn put_number(s: &mut [u8], at: usize, len: usize, v: u64)
     }
 }
 
-// ---- the widths that a sample and an answer need, with no loop
+// ---- the widths of most entries, with no loop
 
 pub fn byte_at(s: &[u8], at: usize) -> u8
     requires { ⌜ at + 1 ≤ length (now s) ⌝ }
@@ -52,6 +39,15 @@ pub fn put_byte(s: &mut [u8], at: usize, v: u8)
     ensures { λ _. ⌜ now (s .exit) ≡ splice (now (s .entry)) at (little 1 v) ⌝ }
 {
     s[at] = v;
+}
+
+pub fn pair_at(s: &[u8], at: usize) -> u16
+    requires { ⌜ at + 2 ≤ length (now s) ⌝ }
+    ensures { λ r. ⌜ r ≡ number (now (s .entry)) at 2 ⌝ }
+{
+    let a = wide::to_u16(s[at]);
+    let b = wide::to_u16(s[at + 1]);
+    a + b * 256
 }
 
 pub fn word_at(s: &[u8], at: usize) -> u32

@@ -3,9 +3,9 @@ use mathlib.Core.Path.{_≡_, _∙_, sym, ap}
 use Prim.Native.Nat.{ℕ, _*_, _^_}
 use native.Mathlib.Omega.{arith}
 use borrow.Author.Needs.{needs}
-use Rattle.block.proofs.Entries.{len-word, len-pair, len-byte}
 use Rattle.block.proofs.put_number.Statement.{statement}
-use Rattle.block.specs.Asked.{number-len}
+use Rattle.entry.proofs.NumberLaws.{len-word, len-pair, len-byte}
+use Rattle.entry.specs.Entry.{number-len}
 use Rattle.wire.specs.Little.{little}
 use Rattle.wire.specs.Splice.{splice}
 use Rattle.block.proofs.put_number.Tie as tie

@@ -6,8 +6,7 @@ use lib.ListN.{length, take, drop, getD}
 use borrow.Author.Tests.{not-true, not-false}
 use Rattle.bits.proofs.Numbers.{length-bits}
 use Rattle.bits.specs.Bits.{bits, Bytes}
-use Rattle.block.proofs.Entries.{number-inside}
-use Rattle.block.proofs.Turns.{fields-long, places-long, limits-long, place-at, end-at, here, rising, room, sized-here, width-here, held-within, held-begin, held-on, held-stop, held-end, fits-here, zero-here, save-begin, save-turn}
+use Rattle.block.proofs.Turns.{fields-long, places-long, limits-long, place-at, end-at, here, rising, number-room, room, sized-here, width-here, held-within, held-begin, held-on, held-stop, held-end, fits-here, zero-here, save-begin, save-turn}
 use Rattle.block.proofs.save_entries.Statement.{statement}
 use Rattle.block.specs.Asked.{fresh-bytes, between, held-front}
 use Rattle.block.specs.Block.{saved}
@@ -54,15 +53,15 @@ shared-slice-read-pair-to-usize c =
 pair-to-usize-requires : tie.Need-pair-to-usize-requires Inv-loop μ-loop
 pair-to-usize-requires c κs = omega arith
 
-held-number-requires : tie.Need-held-number-requires Inv-loop μ-loop
-held-number-requires c κs =
+number-by-requires : tie.Need-number-by-requires Inv-loop μ-loop
+number-by-requires c κs =
     let b = c .before .before .before .before .before .before .before .before .before .before .before .before .before in
     let a = b .args in
     let l = c .before .before .before .before .loop in
     let h = c .before .before .before .loop-test .taken in
     let g = here (b .pre .0) (l .i) h refl refl in
     let p = c .pair-to-usize .ensures .0 ∙ place-at (a .places .now) (b .pre .1) (l .i) h in
-    λ k. omega (arith, number-inside _ _ (width-here g) (sized-here g p) k)
+    omega (arith, number-room g p)
 
 rank-of-requires : tie.Need-rank-of-requires Inv-loop μ-loop
 rank-of-requires c κs = omega arith
@@ -104,7 +103,7 @@ returns c =
     let p = c .before .before .before .before .before .before .pair-to-usize .ensures .0 ∙ place-at (a .places .now) (b .pre .1) (l .i) h in
     let y : Bytes (a .values .now) = λ k. (c .before .before .before .before .before .before .before .before .before .before .before .before .before .shared-slice-known6 .given k) .fits in
     let s = c .before .is-between .ensures ∙ ap (between (getD (a .lows .now) (l .i) 0) (getD (a .highs .now) (l .i) 0)) (c .before .before .before .before .rank-of .ensures) in
-    (held-stop g (a .values .now) (held-within g (b .pre .2) (c .before .before .before .before .before .held-number .result) s (not-true (c .before .is-between .result) (c .if1 .taken)) (a .values .now) p y (c .before .before .before .before .before .held-number .ensures)) (l .inv .2), l .inv .3)
+    (held-stop g (a .values .now) (held-within g (b .pre .2) (c .before .before .before .before .before .number-by .result) s (not-true (c .before .is-between .result) (c .if1 .taken)) (a .values .now) p y (c .before .before .before .before .before .number-by .ensures)) (l .inv .2), l .inv .3)
 
 mul-pair-to-usize-2 : tie.Need-mul-pair-to-usize-2 Inv-loop μ-loop
 mul-pair-to-usize-2 c =
@@ -155,8 +154,8 @@ save-entry-requires c κs =
       b .pre .3,
       l .inv .1,
       omega (arith, room g),
-      c .before .before .before .before .before .before .before .before .before .before .held-number .ensures,
-      fits-here g p (a .values .now) (b .pre .3) y (held-within g (b .pre .2) (c .before .before .before .before .before .before .before .before .before .before .held-number .result) s (not-false (c .before .before .before .before .before .before .is-between .result) (c .before .before .before .before .before .if1 .left)) (a .values .now) p y (c .before .before .before .before .before .before .before .before .before .before .held-number .ensures)) (c .before .before .before .before .before .before .before .before .before .before .held-number .ensures),
+      c .before .before .before .before .before .before .before .before .before .before .number-by .ensures,
+      fits-here g p (a .values .now) (b .pre .3) y (held-within g (b .pre .2) (c .before .before .before .before .before .before .before .before .before .before .number-by .result) s (not-false (c .before .before .before .before .before .before .is-between .result) (c .before .before .before .before .before .if1 .left)) (a .values .now) p y (c .before .before .before .before .before .before .before .before .before .before .number-by .ensures)) (c .before .before .before .before .before .before .before .before .before .before .number-by .ensures),
       zero-here g p (a .values .now) (b .pre .3) (bits (a .block .now)) n (b .pre .5) (l .inv .3),
     )
 
@@ -179,7 +178,7 @@ loop-again c =
     let n : length (bits (a .block .now)) ≡ 8 * fresh-bytes = omega (arith, length-bits (a .block .now)) in (
       omega arith,
       c .before .before .save-entry .kept .1 .1 .1 .1 .0 ∙ l .inv .1,
-      held-on g (a .values .now) (held-within g (b .pre .2) (c .before .before .before .before .before .before .before .before .before .before .before .before .before .held-number .result) s (not-false (c .before .before .before .before .before .before .before .before .before .is-between .result) (c .before .before .before .before .before .before .before .before .if1 .left)) (a .values .now) p y (c .before .before .before .before .before .before .before .before .before .before .before .before .before .held-number .ensures)) (l .inv .2),
+      held-on g (a .values .now) (held-within g (b .pre .2) (c .before .before .before .before .before .before .before .before .before .before .before .before .before .number-by .result) s (not-false (c .before .before .before .before .before .before .before .before .before .is-between .result) (c .before .before .before .before .before .before .before .before .if1 .left)) (a .values .now) p y (c .before .before .before .before .before .before .before .before .before .before .before .before .before .number-by .ensures)) (l .inv .2),
       save-turn g p (a .values .now) (b .pre .3) (bits (a .block .now)) n (l .inv .3) (c .before .before .save-entry .ensures),
     )
 
@@ -208,7 +207,7 @@ save-entries-spec =
     mul-pair-to-usize
     shared-slice-read-pair-to-usize
     pair-to-usize-requires
-    held-number-requires
+    number-by-requires
     rank-of-requires
     mul-is-between
     shared-slice-read-is-between

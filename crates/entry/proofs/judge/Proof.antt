@@ -1,36 +1,37 @@
--- `judge` is `row-verdict` of the value: a number is read and judged, anything else is within.
-use mathlib.Core.Path.{sym, _∙_}
+-- `judge` is `row-verdict` of the value: a number that is no ULINT is read and judged, anything else is within.
+use mathlib.Core.Path.{_≡_, _∙_}
+use mathlib.Core.Logic.{⊎-elim}
 use Prim.Native.Nat.{_≤_}
 use native.Mathlib.Omega.{arith}
-use denote.Ref.{now}
-use Rattle.table.specs.Row.{REAL}
+use Rattle.table.specs.Row.{ULINT, REAL}
 use Rattle.table.specs.Rows.{at-row}
 use Rattle.table.proofs.Table.{row-rule}
-use Rattle.table.proofs.Widths.{number-narrow}
-use Rattle.entry.specs.Entry.{row-verdict}
-use Rattle.entry.proofs.RowLaws.{bytes-verdict, real-short, no-number}
+use Rattle.entry.proofs.RowLaws.{number-there, bytes-verdict, all-within}
 use Rattle.entry.proofs.judge.Statement.{statement}
 use Rattle.entry.proofs.judge.Tie as tie
 
-number-at-requires : tie.Need-number-at-requires
-number-at-requires c κs =
+-- what the arm that reads the number knows of the type
+short : (c : tie.At-match-came) → (c .before .before .args .kind ≤ REAL) × (c .before .before .args .kind ≡ ULINT → ⊥)
+short c = ⊎-elim (λ m. (omega arith, λ e. omega arith)) (λ m. (omega arith, λ e. omega arith)) (c .match .came)
+
+number-by-requires : tie.Need-number-by-requires
+number-by-requires c κs =
     let b = c .before .before in
-    let r = at-row (b .args .row) in
-    let k : r .kind ≤ REAL = omega arith in
-    omega (arith, number-narrow r (row-rule (b .args .row) (b .pre .0)) k)
+    number-there (at-row (b .args .row)) (row-rule (b .args .row) (b .pre .0)) (b .args .value .now) (b .pre .2) (b .pre .1) (short c .0) (short c .1)
 
 judge-kind-requires : tie.Need-judge-kind-requires
-judge-kind-requires c κs =
-    let b = c .before .before .before in
-    let r = at-row (b .args .row) in
-    (b .pre .0, b .pre .1, λ e. rw (c .number-at .ensures, b .pre .2) (real-short r (row-rule (b .args .row) (b .pre .0)) (now (b .args .value)) 0 (λ k. c .before .before .shared-slice-known .given k .fits) (sym (b .pre .1) ∙ e)))
+judge-kind-requires c κs = let b = c .before .before .before in (b .pre .0, b .pre .1, short (c .before) .1)
 
 returns : tie.Need-returns
-returns c = let b = c .before .before .before .before in c .judge-kind .ensures ∙ rw (c .before .number-at .ensures, b .pre .2) (bytes-verdict (at-row (b .args .row)) (b .args .value .now) (b .pre .2))
+returns c =
+    let b = c .before .before .before in
+    all-within (at-row (b .args .row)) (row-rule (b .args .row) (b .pre .0)) (b .args .value .now) (b .pre .2) (b .pre .1) (λ k. c .before .before .shared-slice-known .given k .fits) (omega arith) (c .before .match .rest .1)
 
 returns-2 : tie.Need-returns-2
-unfolding row-verdict
-returns-2 c = let b = c .before .before in no-number (at-row (b .args .row)) _ (omega arith)
+returns-2 c =
+    let b = c .before .before .before .before in
+    c .judge-kind .ensures
+    ∙ bytes-verdict (at-row (b .args .row)) (row-rule (b .args .row) (b .pre .0)) (b .args .value .now) (b .pre .2) (b .pre .1) (short (c .before .before) .0) (short (c .before .before) .1) (c .before .number-by .ensures)
 
 pub judge-spec : {M : Type 1} → statement M
-judge-spec = tie.close (tie.spec number-at-requires judge-kind-requires returns returns-2)
+judge-spec = tie.close (tie.spec number-by-requires judge-kind-requires returns returns-2)

@@ -1,6 +1,5 @@
 -- `judge_kind` is `number-verdict` of the row: the limits read, handed to `judge_number`.
 use mathlib.Core.Path.{_∙_}
-use borrow.Author.Needs.{needs}
 use Rattle.table.specs.Rows.{at-row}
 use Rattle.table.proofs.Table.{row-rule}
 use Rattle.entry.proofs.RowLaws.{judgeable, verdict-from}
@@ -8,12 +7,12 @@ use Rattle.entry.proofs.judge_kind.Statement.{statement}
 use Rattle.entry.proofs.judge_kind.Tie as tie
 
 limits-of-requires : tie.Need-limits-of-requires
-limits-of-requires c κs = search needs
+limits-of-requires c κs = (c .pre .0, λ e. c .pre .2 (c .pre .1 ∙ e))
 
 judge-number-requires : tie.Need-judge-number-requires
 judge-number-requires c κs =
     let b = c .before in
-    judgeable (at-row (b .args .row)) (b .pre .1) (c .limits-of .ensures .0) (c .limits-of .ensures .1) (b .args .v) (row-rule (b .args .row) (b .pre .0)) (λ e. b .pre .2 (b .pre .1 ∙ e))
+    judgeable (at-row (b .args .row)) (b .pre .1) (c .limits-of .ensures .0) (c .limits-of .ensures .1) (b .args .v) (row-rule (b .args .row) (b .pre .0)) (b .fits .v .fits)
 
 returns : tie.Need-returns
 returns c = let b = c .before .before in c .judge-number .ensures ∙ verdict-from (at-row (b .args .row)) (b .pre .1) (c .before .limits-of .ensures .0) (c .before .limits-of .ensures .1) (b .args .v)

@@ -12,11 +12,14 @@ slice-aggregate-copy-at c = search needs
 copy-at-requires : tie.Need-copy-at-requires
 copy-at-requires c κs = search needs
 
-add-number-at : tie.Need-add-number-at
-add-number-at c = search needs
+add-pair-at : tie.Need-add-pair-at
+add-pair-at c = search needs
 
-number-at-requires : tie.Need-number-at-requires
-number-at-requires c κs = search needs
+pair-at-requires : tie.Need-pair-at-requires
+pair-at-requires c κs = search needs
+
+cast-row : tie.Need-cast-row
+cast-row c = search needs
 
 add-byte-at : tie.Need-add-byte-at
 add-byte-at c = search needs
@@ -54,7 +57,7 @@ is-on-requires c κs = search needs
 returns : tie.Need-returns
 returns c =
     let s = c .before .before .before .before .before .before .before .before .before .before .before .before in
-    record-read (s .args .state .now) (s .args .at) (s .pre) (c .before .before .before .before .before .before .before .before .before .copy-at .ensures) (c .before .before .before .before .before .before .before .number-at .ensures) (c .before .before .before .before .before .direction-of .ensures ∙ ap direction-of (c .before .before .before .before .before .before .byte-at .ensures)) (c .before .before .before .to-usize .ensures .0 ∙ c .before .before .before .before .byte-at2 .ensures) (c .before .to-usize2 .ensures .0 ∙ c .before .before .byte-at3 .ensures) (c .is-on .ensures)
+    record-read (s .args .state .now) (s .args .at) (s .pre) (c .before .before .before .before .before .before .before .before .before .copy-at .ensures) (c .before .before .before .before .before .before .before .pair-at .ensures) (c .before .before .before .before .before .direction-of .ensures ∙ ap direction-of (c .before .before .before .before .before .before .byte-at .ensures)) (c .before .before .before .to-usize .ensures .0 ∙ c .before .before .before .before .byte-at2 .ensures) (c .before .to-usize2 .ensures .0 ∙ c .before .before .byte-at3 .ensures) (c .is-on .ensures)
 
 pub record-at-spec : {M : Type 1} → statement M
 record-at-spec =
@@ -62,8 +65,9 @@ record-at-spec =
     (tie.spec
     slice-aggregate-copy-at
     copy-at-requires
-    add-number-at
-    number-at-requires
+    add-pair-at
+    pair-at-requires
+    cast-row
     add-byte-at
     byte-at-requires
     direction-of-requires

@@ -6,15 +6,6 @@ use borrow.Author.Needs.{needs}
 use Rattle.entry.proofs.limits.judge_number.Statement.{statement}
 use Rattle.entry.proofs.limits.judge_number.Tie as tie
 
-cast-judge-real : tie.Need-cast-judge-real
-cast-judge-real c = omega (arith, c .before .pre (c .match .keys1) .lowest .short)
-
-cast-judge-real-2 : tie.Need-cast-judge-real-2
-cast-judge-real-2 c = omega (arith, c .before .pre (c .match .keys1) .highest .short)
-
-cast-judge-real-3 : tie.Need-cast-judge-real-3
-cast-judge-real-3 c = omega (arith, c .before .pre (c .match .keys1) .short)
-
 judge-real-requires : tie.Need-judge-real-requires
 judge-real-requires c κs = c .before .pre (c .match .keys1)
 
@@ -34,9 +25,6 @@ pub judge-number-spec : {M : Type 1} → statement M
 judge-number-spec =
     tie.close
     (tie.spec
-    cast-judge-real
-    cast-judge-real-2
-    cast-judge-real-3
     judge-real-requires
     judge-whole-requires
     returns

@@ -12,33 +12,21 @@ returns c = let a = c .before .args in real-nan (a .low) (a .high) (a .v) (c .be
 rank-of-requires : tie.Need-rank-of-requires
 rank-of-requires c κs = search needs
 
-word-to-u64-requires : tie.Need-word-to-u64-requires
-word-to-u64-requires c κs = search needs
-
 rank-of-requires-2 : tie.Need-rank-of-requires-2
 rank-of-requires-2 c κs = search needs
 
-word-to-u64-requires-2 : tie.Need-word-to-u64-requires-2
-word-to-u64-requires-2 c κs = search needs
-
 rank-of-requires-3 : tie.Need-rank-of-requires-3
 rank-of-requires-3 c κs = search needs
-
-word-to-u64-requires-3 : tie.Need-word-to-u64-requires-3
-word-to-u64-requires-3 c κs = search needs
 
 judge-whole-requires : tie.Need-judge-whole-requires
 judge-whole-requires c κs = search needs
 
 returns-2 : tie.Need-returns-2
 returns-2 c =
-    let b = c .before .before .before .before .before .before .before .before in
+    let b = c .before .before .before .before .before in
     let a = b .args in
     c .judge-whole .ensures
-    ∙ by-rank (a .low) (a .high) (a .v) (b .pre) _ _ _ (omega arith)
-    (c .before .before .before .before .before .word-to-u64 .ensures .0 ∙ c .before .before .before .before .before .before .rank-of .ensures)
-    (c .before .before .before .word-to-u642 .ensures .0 ∙ c .before .before .before .before .rank-of2 .ensures)
-    (c .before .word-to-u643 .ensures .0 ∙ c .before .before .rank-of3 .ensures)
+    ∙ by-rank (a .low) (a .high) (a .v) (b .pre) _ _ _ (omega arith) (c .before .before .before .rank-of .ensures) (c .before .before .rank-of2 .ensures) (c .before .rank-of3 .ensures)
 
 pub judge-real-spec : {M : Type 1} → statement M
 judge-real-spec =
@@ -46,10 +34,7 @@ judge-real-spec =
     (tie.spec
     returns
     rank-of-requires
-    word-to-u64-requires
     rank-of-requires-2
-    word-to-u64-requires-2
     rank-of-requires-3
-    word-to-u64-requires-3
     judge-whole-requires
     returns-2)

@@ -19,18 +19,18 @@ mul-t8 c = search needs
 
 array-read-t11 : tie.Need-array-read-t11
 unfolding pairs
-array-read-t11 c = let h : c .to-usize .result < pair-count = rw (c .to-usize .ensures .0) (pair-there (c .before .args .row) (c .before .pre)) in search needs
+array-read-t11 c = let h : c .to-usize .result < pair-count = rw (c .to-usize .ensures .0) (pair-there (c .before .args .row) (c .before .pre .0)) in search needs
 
 mul-t13 : tie.Need-mul-t13
 mul-t13 c = search needs
 
 array-read-t16 : tie.Need-array-read-t16
 unfolding pairs
-array-read-t16 c = let h : c .to-usize .result < pair-count = rw (c .to-usize .ensures .0) (pair-there (c .before .args .row) (c .before .pre)) in search needs
+array-read-t16 c = let h : c .to-usize .result < pair-count = rw (c .to-usize .ensures .0) (pair-there (c .before .args .row) (c .before .pre .0)) in search needs
 
 returns : tie.Need-returns
 unfolding pairs minima maxima
-returns c = (ap (λ (p : ℕ). getD minima p 0) (c .to-usize .ensures .0) ∙ low-by-pair (c .before .args .row), ap (λ (p : ℕ). getD maxima p 0) (c .to-usize .ensures .0) ∙ high-by-pair (c .before .args .row))
+returns c = (ap (λ (p : ℕ). getD minima p 0) (c .to-usize .ensures .0) ∙ low-by-pair (c .before .args .row), ap (λ (p : ℕ). getD maxima p 0) (c .to-usize .ensures .0) ∙ high-by-pair (c .before .args .row) (c .before .pre .1))
 
 pub limits-of-spec : {M : Type 1} → statement M
 limits-of-spec =
