@@ -9,7 +9,8 @@ use lib.ListN.{length, take, drop, getD, set, length-take, length-drop, drop-of-
 use lib.Seq.{drop-cons, drop-drop, set-split, take-at, drop-at, length-take-le, getD-drop}
 use Rattle.bits.proofs.Numbers.{length-msb, length-bits, length-packed, bits-append, num-msb}
 use Rattle.bits.proofs.Packing.{splice-field}
-use Rattle.bits.specs.Bits.{msb, bits, field, packed, Bytes}
+use Rattle.wire.proofs.LittleLaws.{Bytes}
+use Rattle.bits.specs.Bits.{msb, bits, field, packed}
 use Rattle.wire.proofs.SpliceLaws.{splice-then, splice-mid, parts, part-length}
 use Rattle.wire.specs.Splice.{splice}
 

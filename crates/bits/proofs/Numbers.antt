@@ -7,7 +7,8 @@ use native.Mathlib.Omega.{arith}
 use lib.ListN.{length, take, drop, length-append, length-drop}
 use lib.Pow.{pow-pos, split}
 use lib.Seq.{take-at, drop-at, length-take-le, take-add}
-use Rattle.bits.specs.Bits.{msb, bits, num-from, num, packed, Small, Bytes}
+use Rattle.wire.proofs.LittleLaws.{Bytes}
+use Rattle.bits.specs.Bits.{msb, bits, num-from, num, packed, Small}
 
 -- ---- lengths
 

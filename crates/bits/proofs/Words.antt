@@ -7,7 +7,8 @@ use native.Mathlib.Omega.{arith}
 use lib.ListN.{length, getD, set, length-set, length-append}
 use Rattle.bits.proofs.Numbers.{length-bits, length-msb, msb-split}
 use Rattle.bits.proofs.Parts.{field-more, byte-get, byte-put}
-use Rattle.bits.specs.Bits.{msb, bits, field, Bytes}
+use Rattle.wire.proofs.LittleLaws.{Bytes}
+use Rattle.bits.specs.Bits.{msb, bits, field}
 use Rattle.wire.proofs.SpliceLaws.{splice-then}
 use Rattle.wire.proofs.Stores.{four-bytes as bytes-of-word, four-stores as stores-of-word}
 use Rattle.wire.specs.Splice.{splice}

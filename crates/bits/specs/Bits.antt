@@ -1,7 +1,7 @@
 -- "most significant bit first": bytes as the list of their bits, a number as bits, bits as a number.
 use mathlib.Core.List.{List, [], _∷_, _++_}
 use Prim.Native.Nat.{ℕ, zero, suc, _+_, _*_, _/_, _%_, _^_, _<_}
-use lib.ListN.{take, drop, getD}
+use lib.ListN.{take, drop}
 
 -- the w low bits of v, the highest first
 unfoldable pub msb : ℕ → ℕ → List ℕ
@@ -34,10 +34,7 @@ packed (suc n) bs = num (take 8 bs) ∷ packed n (drop 8 bs)
 unfoldable pub merged : ℕ → ℕ → ℕ → ℕ → ℕ
 merged x n e v = x / 2 ^ (n + e) * 2 ^ (n + e) + (v * 2 ^ e + x % 2 ^ e)
 
--- bits are 0 or 1, bytes are below 256
+-- bits are 0 or 1
 unfoldable pub Small : List ℕ → Type 0
 Small [] = Unit
 Small (b ∷ bs) = (b < 2) × Small bs
-
-abbrev pub Bytes : List ℕ → Type 0
-Bytes s = (k : ℕ) → getD s k 0 < 256

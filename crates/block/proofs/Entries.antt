@@ -13,7 +13,7 @@ use lib.Seq.{take-at, length-take-le}
 use borrow.Author.Tests.{eq-eqb, ne-eqb, le-leb, lt-leb}
 use Rattle.bits.proofs.Numbers.{length-msb, length-bits, num-msb, msb-num, num-lt, small-take, small-msb, small-bits, length-packed, packed-bits, bits-packed}
 use Rattle.bits.proofs.Parts.{field-fits}
-use Rattle.bits.specs.Bits.{msb, bits, num, field, packed, Small, Bytes}
+use Rattle.bits.specs.Bits.{msb, bits, num, field, packed, Small}
 use Rattle.block.specs.Asked.{Sized, entry-len}
 use Rattle.block.specs.Block.{width, entry-bits, entry-bytes, within}
 use Rattle.entry.proofs.RowLaws.{no-number, bool-within}
@@ -23,7 +23,7 @@ use Rattle.entry.specs.declared.limits.Verdict.{Verdict}
 use Rattle.entry.specs.declared.limits.Verdict.the-variants.{Within, NotANumber, Above, Below}
 use Rattle.table.proofs.Walks.{lt-or-ge}
 use Rattle.table.specs.Row.{Row, BOOL, REAL}
-use Rattle.wire.proofs.LittleLaws.{length-little, from-little, little-from, number-lt}
+use Rattle.wire.proofs.LittleLaws.{Bytes, length-little, from-little, little-from, number-lt}
 use Rattle.wire.specs.Little.{little, fromLittle, number}
 
 -- an entry is a number or a string

@@ -8,7 +8,8 @@ use native.Mathlib.Omega.{arith}
 use lib.Dec.{eqb, leb}
 use borrow.Author.Tests.{eq-eqb, ne-eqb, le-leb, lt-leb}
 use Rattle.bits.proofs.Parts.{field-fits}
-use Rattle.bits.specs.Bits.{bits, field, Bytes}
+use Rattle.wire.proofs.LittleLaws.{Bytes}
+use Rattle.bits.specs.Bits.{bits, field}
 use Rattle.block.proofs.Entries.{number-or-string, no-code, number-narrow, within-string, width-some, width-most}
 use Rattle.block.proofs.Kept.{Kept}
 use Rattle.block.specs.Asked.{cut, lowest, highest, between}

@@ -11,7 +11,7 @@ use lib.Seq.{take-at, drop-at, drop-drop, take-add, length-take-le}
 use borrow.Author.Tests.{le-leb, eqb-true, eq-eqb}
 use Rattle.bits.proofs.Numbers.{length-msb, num-msb, msb-num, small-take, small-drop}
 use Rattle.bits.proofs.Parts.{field-mid}
-use Rattle.bits.specs.Bits.{msb, bits, num, field, Small, Bytes}
+use Rattle.bits.specs.Bits.{msb, num, field, Small}
 use Rattle.block.proofs.Entries.{length-entry, length-bytes, entry-back, back-entry, number-back, bits-number, number-or-string, within-string}
 use Rattle.block.proofs.Kept.{Kept}
 use Rattle.block.proofs.Walking.{fits, Keeps, part-long, length-saved}
@@ -19,7 +19,7 @@ use Rattle.block.proofs.Zeros.{zeros, zeros-are}
 use Rattle.block.specs.Block.{LAYOUT, row-width, part, entry-bits, entry-bytes, within, widths, saved, load-rows, values-good, rows-good, all-zero, block-of, good}
 use Rattle.table.proofs.Walks.{and-true}
 use Rattle.table.specs.Row.{Row, no-row}
-use Rattle.wire.proofs.LittleLaws.{bytes-part}
+use Rattle.wire.proofs.LittleLaws.{Bytes, bytes-part}
 use Rattle.wire.proofs.SpliceLaws.{length-splice, part-same, part-apart, splice-own}
 use Rattle.wire.specs.Little.{fromLittle, number}
 use Rattle.wire.specs.Splice.{splice, apart}

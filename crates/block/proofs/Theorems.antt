@@ -11,7 +11,8 @@ use lib.ListN.{length, take, drop, getD, replicate, length-append, length-replic
 use lib.Seq.{take-all}
 use borrow.Author.Tests.{le-leb}
 use Rattle.bits.proofs.Numbers.{length-msb, length-bits, length-packed, bits-packed, bytes-of, small-bits, small-msb, small-append}
-use Rattle.bits.specs.Bits.{msb, bits, packed, Small, Bytes}
+use Rattle.wire.proofs.LittleLaws.{Bytes}
+use Rattle.bits.specs.Bits.{msb, bits, packed, Small}
 use Rattle.block.proofs.Entries.{small-entry}
 use Rattle.block.proofs.RoundTrips.{Clear, Rising, copy-rows, copied-entry, copy-own, load-beside, length-load, load-stored, stored-good, store-loaded, loaded-good}
 use Rattle.block.proofs.Tables.{Among, nv-among, nv-clear, table-rises}

@@ -10,7 +10,8 @@ use native.Mathlib.Omega.{arith}
 use lib.Dec.{leb, leb→le}
 use lib.ListN.{length, take, drop, getD, set, length-map, drop-of-length-le}
 use lib.Seq.{take-suc, take-suc-set, getD-take}
-use Rattle.bits.specs.Bits.{bits, field, Bytes}
+use Rattle.wire.proofs.LittleLaws.{Bytes}
+use Rattle.bits.specs.Bits.{bits, field}
 use Rattle.block.proofs.Entries.{length-entry}
 use Rattle.block.proofs.Judged.{held-judged, cut-is, cut-fits, saved-judged}
 use Rattle.block.proofs.Kept.{Kept, kept}

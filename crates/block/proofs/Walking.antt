@@ -11,7 +11,7 @@ use lib.Dec.{T, eqb}
 use lib.ListN.{length, take, drop, getD, length-append, length-take, length-drop, take-append-drop}
 use lib.Seq.{drop-cons, take-suc}
 use borrow.Author.Tests.{eq-eqb, ne-eqb, eqb-true, eqb-false}
-use Rattle.bits.specs.Bits.{field, Bytes}
+use Rattle.bits.specs.Bits.{field}
 use Rattle.block.proofs.Entries.{width-bool, width-bytes, length-entry, within-bool}
 use Rattle.block.proofs.Kept.{Kept, kept}
 use Rattle.block.specs.Asked.{starts, cut, held-front, saved-front, saved-numbers}
@@ -21,7 +21,7 @@ use Rattle.table.proofs.Walks.{both-left, both-right, lt-or-ge}
 use Rattle.table.specs.Row.{Row, no-row, BOOL}
 use Rattle.table.specs.Rule.{pick, block-bits, block-sum, row-ok}
 use Rattle.table.specs.Walk.{every}
-use Rattle.wire.proofs.LittleLaws.{number-lt}
+use Rattle.wire.proofs.LittleLaws.{Bytes, number-lt}
 use Rattle.wire.specs.Little.{fromLittle, number}
 use Rattle.wire.specs.Splice.{splice}
 

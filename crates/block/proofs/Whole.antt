@@ -9,7 +9,8 @@ use lib.ListN.{length, take, drop, replicate, length-append, length-replicate, r
 use lib.Seq.{take-all}
 use borrow.Author.Tests.{eq-eqb, ne-eqb}
 use Rattle.bits.proofs.Numbers.{length-msb, bytes-of, bits-append}
-use Rattle.bits.specs.Bits.{msb, bits, field, packed, Bytes}
+use Rattle.wire.proofs.LittleLaws.{Bytes}
+use Rattle.bits.specs.Bits.{msb, bits, field, packed}
 use Rattle.block.proofs.Turns.{nv-keep, nv-length, nv-ends}
 use Rattle.block.proofs.Walking.{length-saved, held-all-good, saved-all-good, held-most, front-most}
 use Rattle.block.proofs.Zeros.{zero-field, and-last}

@@ -11,7 +11,8 @@ use lib.Seq.{drop-cons, drop-drop, drop-at, length-take-le}
 use borrow.Author.Tests.{eq-eqb, ne-eqb, eqb-true}
 use Rattle.bits.proofs.Copying.{bits-drop}
 use Rattle.bits.proofs.Numbers.{num-msb}
-use Rattle.bits.specs.Bits.{msb, bits, num-from, num, field, Bytes}
+use Rattle.wire.proofs.LittleLaws.{Bytes}
+use Rattle.bits.specs.Bits.{msb, bits, num-from, num, field}
 use Rattle.block.specs.Block.{all-zero}
 use Rattle.table.proofs.Walks.{and-true}
 use Rattle.wire.specs.Splice.{splice}

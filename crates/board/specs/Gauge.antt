@@ -3,7 +3,7 @@ use Prim.Native.Nat.{ℕ}
 use lib.Ieee.{Float}
 use Rattle.sample.specs.Sample.{values-after, trips-after}
 use Rattle.sdo.specs.Lines.{Entries}
-use Rattle.gauge.specs.Memory.{Memory, Store, with-values}
+use Rattle.gauge.specs.Memory.{Store, with-values}
 use Rattle.gauge.specs.Whole.{read-whole, commit-whole, write-sizes}
 
 -- "A sample has pressure (REAL), valid flag (0 is not valid, else valid), fault word, seconds since power-on"

@@ -2,7 +2,6 @@
 use sdo::decode;
 ghost use mathlib.Core.Path.{_≡_};
 ghost use Prim.Native.Nat.{_+_, _≤_};
-ghost use lib.ListN.{length};
 ghost use Rattle.sdo.specs.Records.{speak};
 ghost use Rattle.state.specs.State.{record-place, record-at};
 ghost use Rattle.board.specs.Gauge.{bag552};

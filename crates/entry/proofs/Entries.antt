@@ -7,7 +7,6 @@ use lib.Dec.{T}
 use lib.ListN.{length, getD, replicate, length-replicate}
 use Rattle.table.specs.Row.{Row, no-row, BOOL, STRING}
 use Rattle.table.specs.Rows.{rows, row-count, at-row}
-use Rattle.table.specs.Walk.{every}
 use Rattle.table.specs.Rule.{held, table-ok}
 use Rattle.table.proofs.Rules.{rule-at, before-at, apart-at}
 use Rattle.table.proofs.Table.{rows-pass, rows-length, row-rule}

@@ -27,7 +27,8 @@ pub fn held_of(row: usize) -> usize
     requires { ⌜ row < row-count ⌝ }
     ensures { λ r. ⌜ r ≡ held (at-row row) ⌝ }
 {
-    held_by(table::field::kind_of(row), table::field::len_of(row))
+    let shape = table::field::shape_of(row);
+    held_by(table::field::kind_in(shape), table::field::len_in(shape))
 }
 
 // ---- judging

@@ -1,9 +1,6 @@
 -- Each named place is the table's place of its entry: one computed test over the list. Assumes nothing.
-use mathlib.Core.Bool.{Bool, true, false}
-use mathlib.Core.List.{List}
-use Prim.Native.Nat.{ℕ}
+use mathlib.Core.Bool.{Bool, false}
 use lib.Dec.{T, eqb}
-use lib.ListN.{getD}
 use Rattle.table.specs.Rows.{rows, at-row}
 use Rattle.table.specs.Walk.{both, every}
 use Rattle.table.specs.Find.{find-from, find-row}

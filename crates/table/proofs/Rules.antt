@@ -1,5 +1,5 @@
 -- The table's rule at each row, for ANY table that passes the one test. Assumes nothing.
-use mathlib.Core.Path.{_≡_, subst}
+use mathlib.Core.Path.{_≡_}
 use mathlib.Core.Bool.{Bool, true, false}
 use mathlib.Core.List.{List}
 use mathlib.Core.Logic.{_⊎_, inl, inr, ⊎-elim}
@@ -8,9 +8,9 @@ use native.Mathlib.Omega.{arith}
 use lib.Dec.{T, leb, ltb, eqb, leb→le, ltb→lt, eqb→eq}
 use lib.ListN.{length, getD}
 use borrow.Author.Tests.{eq-eqb, le-leb}
-use Rattle.table.specs.Row.{Row, no-row, BOOL, ULINT, REAL, STRING, CARD}
-use Rattle.table.specs.Walk.{both, all, every, chain}
-use Rattle.table.specs.Rule.{pick, key, held, block-bits, block-sum, is-number, rank, finite, width-of, row-tests, row-ok, next-ok, table-ok}
+use Rattle.table.specs.Row.{Row, no-row, BOOL, ULINT, REAL, STRING}
+use Rattle.table.specs.Walk.{every, chain}
+use Rattle.table.specs.Rule.{pick, key, held, block-sum, is-number, rank, finite, width-of, row-tests, row-ok, next-ok, table-ok}
 use Rattle.table.proofs.Walks.{nth, both-left, both-right, every-at, chain-far, lt-or-ge}
 
 -- the rule of one row

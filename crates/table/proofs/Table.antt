@@ -1,14 +1,13 @@
 -- The table itself: it passes the rule, and what callers use of its rows and of the way to a row. Assumes nothing.
-use mathlib.Core.Path.{_≡_, refl, sym, ap, subst, _∙_}
-use mathlib.Core.Bool.{Bool, true, false}
-use mathlib.Core.Logic.{_⊎_, ⊎-elim}
-use Prim.Native.Nat.{ℕ, _+_, _*_, _<_, _≤_}
+use mathlib.Core.Path.{_≡_, refl, ap, subst, _∙_}
+use mathlib.Core.Bool.{false}
+use mathlib.Core.Logic.{_⊎_}
+use Prim.Native.Nat.{ℕ, _+_, _<_, _≤_}
 use native.Mathlib.Omega.{arith}
-use lib.Dec.{T, leb, eqb, ltb}
-use lib.ListN.{length, getD, drop, length-drop}
-use lib.Seq.{getD-drop}
+use lib.Dec.{T}
+use lib.ListN.{length}
 use borrow.Author.Tests.{lt-leb}
-use Rattle.table.specs.Row.{Row, no-row, BOOL, USINT, UINT, UDINT, ULINT, REAL, STRING, CARD, COMMAND}
+use Rattle.table.specs.Row.{CARD}
 use Rattle.table.specs.Rows.{rows, row-count, at-row}
 use Rattle.table.specs.Walk.{all, every, linked, chain}
 use Rattle.table.specs.Rule.{pick, key, held, block-bits, block-sum, is-number, real-rank, rank, finite, width-of, row-tests, row-ok, next-ok, table-ok}

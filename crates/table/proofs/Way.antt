@@ -1,19 +1,18 @@
 -- The way to a row on rising keys: rows below the key are passed over, and what stands where none is left decides. Assumes nothing.
-use mathlib.Core.Path.{_≡_, refl, sym, ap, _∙_}
+use mathlib.Core.Path.{_≡_, sym, ap, _∙_}
 use mathlib.Core.Bool.{Bool, true, false, _&&_}
 use mathlib.Core.Logic.{_⊎_, inl, inr, ⊎-elim}
-use Prim.Native.Nat.{ℕ, _+_, _-_, _*_, _<_, _≤_}
+use Prim.Native.Nat.{ℕ, _+_, _-_, _<_, _≤_}
 use native.Mathlib.Omega.{arith}
 use lib.Dec.{ltb, eqb}
 use borrow.Author.Tests.{ltb-true, eqb-true, lt-ltb, le-ltb, eq-eqb}
-use Rattle.table.specs.Row.{Row}
 use Rattle.table.specs.Rows.{rows, row-count, at-row}
 use Rattle.table.specs.Rule.{key}
-use Rattle.table.specs.Find.{wanted, find-row, Below, Passed}
+use Rattle.table.specs.Find.{wanted, find-row, Passed}
 use Rattle.table.specs.declared.Found.the-variants.{At, NoIndex, NoSub}
 use Rattle.table.proofs.Table.{rows-length, row-rule, before, row-found, no-sub-find, no-index-find}
 use Rattle.table.proofs.Walks.{lt-or-ge, and-true}
-use Rattle.table.proofs.Searched.{No-index, No-key}
+use Rattle.table.proofs.Searched.{No-key}
 
 pub key-rises : (j k : ℕ) → j ≤ k → k < row-count → key (at-row j) ≤ key (at-row k)
 key-rises j k h l = ⊎-elim

@@ -1,6 +1,6 @@
 -- `put_field` meets its contract: the field is merged into the bytes that it touches. Assumes nothing.
-use mathlib.Core.Path.{_≡_, _∙_}
-use Prim.Native.Nat.{_-_, _*_, _/_, _%_, _^_, _+_}
+use mathlib.Core.Path.{_∙_}
+use Prim.Native.Nat.{_-_, _*_, _/_, _+_}
 use native.Mathlib.Omega.{arith}
 use borrow.Author.Needs.{needs}
 use Rattle.bits.proofs.Parts.{field-fits}

@@ -1,6 +1,6 @@
 -- `spread` meets its contract. Invariant: the rest, spread before i, makes what the whole does. Assumes nothing.
 use mathlib.Core.Path.{_≡_, _∙_, sym, refl}
-use Prim.Native.Nat.{ℕ, _+_, _-_, _*_, _≤_, _<_}
+use Prim.Native.Nat.{_-_, _*_, _≤_}
 use native.Mathlib.Omega.{arith}
 use lib.ListN.{length, length-set}
 use Rattle.bits.proofs.Shifts.{spread-turn}

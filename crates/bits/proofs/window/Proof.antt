@@ -1,6 +1,6 @@
 -- `window` meets its contract. Invariant: what is gathered is the field of the bytes passed. Assumes nothing.
 use mathlib.Core.Path.{_≡_, _∙_, sym, ap}
-use Prim.Native.Nat.{ℕ, _+_, _-_, _*_, _≤_, _<_}
+use Prim.Native.Nat.{ℕ, _-_, _*_, _≤_}
 use native.Mathlib.Omega.{arith}
 use Rattle.bits.proofs.Parts.{field-zero, field-fits}
 use Rattle.bits.proofs.Shifts.{window-turn}

@@ -5,7 +5,8 @@ use native.Mathlib.Omega.{arith}
 use lib.ListN.{length, take, drop, getD}
 use borrow.Author.Tests.{not-true, not-false}
 use Rattle.bits.proofs.Numbers.{length-bits}
-use Rattle.bits.specs.Bits.{bits, Bytes}
+use Rattle.wire.proofs.LittleLaws.{Bytes}
+use Rattle.bits.specs.Bits.{bits}
 use Rattle.block.proofs.Turns.{fields-long, places-long, limits-long, place-at, end-at, here, rising, number-room, room, sized-here, width-here, held-within, held-begin, held-on, held-stop, held-end, fits-here, zero-here, save-begin, save-turn}
 use Rattle.block.proofs.save_entries.Statement.{statement}
 use Rattle.block.specs.Asked.{fresh-bytes, between, held-front}

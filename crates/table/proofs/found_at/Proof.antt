@@ -1,10 +1,8 @@
 -- `found_at`: the row where none is left below the key, or the row before it, has the index. Assumes nothing.
-use mathlib.Core.Path.{_≡_, sym, ap, _∙_}
 use Prim.Native.Nat.{_-_}
 use native.Mathlib.Omega.{arith}
 use borrow.Author.Needs.{needs}
 use Rattle.table.specs.Row.{Row}
-use Rattle.table.specs.Rows.{row-count, at-row}
 use Rattle.table.proofs.ColumnLaws.{field-at, column-long}
 use Rattle.table.proofs.Way.{has-it, has-not, here, other-sub, sub-before, nowhere}
 use Rattle.table.proofs.found_at.Statement.{statement}

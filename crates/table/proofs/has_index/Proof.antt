@@ -1,11 +1,11 @@
 -- `has_index`: past the last row there is none. Assumes nothing.
-use mathlib.Core.Path.{_≡_, sym, ap, _∙_}
+use mathlib.Core.Path.{ap}
 use native.Mathlib.Omega.{arith}
 use borrow.Author.Needs.{needs}
 use borrow.Author.Tests.{lt-ltb, le-ltb}
 use lib.Dec.{eqb}
 use Rattle.table.specs.Row.{Row}
-use Rattle.table.specs.Rows.{row-count, at-row}
+use Rattle.table.specs.Rows.{row-count}
 use Rattle.table.proofs.ColumnLaws.{field-at, column-long}
 use Rattle.table.proofs.has_index.Statement.{statement}
 use Rattle.table.proofs.has_index.Tie as tie

@@ -1,7 +1,6 @@
 -- `hop`: over the step or not at all. Assumes nothing.
 use mathlib.Core.Path.{sym, _∙_}
 use native.Mathlib.Omega.{arith}
-use borrow.Author.Needs.{needs}
 use borrow.Author.Tests.{ltb-true, ltb-false}
 use Rattle.table.proofs.Way.{hopped}
 use Rattle.table.proofs.hop.Statement.{statement}

@@ -1,10 +1,9 @@
 -- `is_below`: keys are compared by index, then by subindex. Assumes nothing.
-use mathlib.Core.Path.{_≡_, sym, ap, _∙_}
+use mathlib.Core.Path.{ap, _∙_}
 use native.Mathlib.Omega.{arith}
 use borrow.Author.Needs.{needs}
 use lib.Dec.{ltb}
 use Rattle.table.specs.Row.{Row}
-use Rattle.table.specs.Rows.{row-count, at-row}
 use Rattle.table.proofs.ColumnLaws.{field-at, column-long}
 use Rattle.table.proofs.Way.{below-by-sub, below-by-index}
 use Rattle.table.proofs.is_below.Statement.{statement}

@@ -1,12 +1,13 @@
 -- `line::read::next_part`: each return is one law, given what the calls ensure. Assumes nothing.
 use mathlib.Core.Path.{ap, _∙_}
 use borrow.Author.Needs.{needs}
+use Rattle.wire.proofs.Writes.{and-right}
 use Rattle.order.specs.Talk.{wrongToggle}
 use Rattle.sdo.specs.Eight.{answerOf}
 use Rattle.sdo.specs.Replies.{is-reading, nextPartReply}
 use Rattle.sdo.specs.declared.Key.{Key}
 use Rattle.sdo.specs.declared.Transfer.{Transfer}
-use Rattle.sdo.proofs.Facts.{said, and-right}
+use Rattle.sdo.proofs.Facts.{said}
 use Rattle.sdo.proofs.RecordLaws.{counts-fits, at-most-64}
 use Rattle.sdo.proofs.ReplyLaws.{next-given, next-wrong, next-none}
 use Rattle.line.specs.Answering.{replied}

@@ -2,12 +2,13 @@
 use mathlib.Core.Path.{refl, ap, _∙_}
 use lib.ListN.{take, drop}
 use borrow.Author.Needs.{needs}
+use Rattle.wire.proofs.Writes.{and-right}
 use Rattle.order.specs.Talk.{wrongToggle}
 use Rattle.sdo.specs.Eight.{answerOf}
 use Rattle.sdo.specs.Replies.{ending, is-writing, sendPartReply}
 use Rattle.sdo.specs.declared.Key.{Key}
 use Rattle.sdo.specs.declared.Transfer.{Transfer}
-use Rattle.sdo.proofs.Facts.{said, and-right}
+use Rattle.sdo.proofs.Facts.{said}
 use Rattle.sdo.proofs.RecordLaws.{counts-fits}
 use Rattle.sdo.proofs.ReplyLaws.{sent-taken, sent-wrong, sent-none}
 use Rattle.line.specs.Answering.{answered}
