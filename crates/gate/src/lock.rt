@@ -12,13 +12,16 @@ fn guards(row: usize, kind: u8) -> bool
     requires { ⌜ (row < row-count) × (kind ≡ at-row row .kind) ⌝ }
     ensures { λ r. ⌜ r ≡ guarded (at-row row) ⌝ }
 {
+    if field::nv_of(row) == 1 {
+        return true;
+    }
     if kind == 7 {
         return true;
     }
     if kind == 8 {
         return field::index_of(row) == 0xFBF4;
     }
-    field::nv_of(row) == 1
+    false
 }
 
 // Is a write to this row refused by the lock as it stands now? While the lock is open, the row is not looked at.
