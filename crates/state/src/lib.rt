@@ -123,18 +123,19 @@ pub fn put_part(state: &mut [u8], at: usize, t: Transfer, m: &[u8], count: usize
     put_tail(state, at, record::grown(t, m, count));
 }
 
-// The trip states; a byte other than 0 is on.
+// The trip states, which stand in one word; a byte other than 0 is on.
 pub fn trips_at(state: &[u8]) -> Trips
     requires { ⌜ length (now state) ≡ 256 ⌝ }
     ensures { λ r. ⌜ r ≡ trips-at (now (state .entry)) ⌝ }
 {
+    let word = wire::word_at(state, 192);
     let one = On {
-        high: is_on(state, 192),
-        low: is_on(state, 193),
+        high: word % 256 != 0,
+        low: word / 256 % 256 != 0,
     };
     let two = On {
-        high: is_on(state, 194),
-        low: is_on(state, 195),
+        high: word / 65536 % 256 != 0,
+        low: word / 16777216 != 0,
     };
     Trips { one, two }
 }

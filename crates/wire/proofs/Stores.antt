@@ -8,7 +8,7 @@ use lib.ListN.{length, take, drop, getD, set}
 use lib.Seq.{sets, sets-eq}
 use Rattle.wire.specs.Splice.{splice}
 use Rattle.wire.specs.Little.{little, number}
-use Rattle.wire.proofs.LittleLaws.{number-none, number-suc}
+use Rattle.wire.proofs.LittleLaws.{Bytes, number-none, number-suc}
 
 -- stores one behind the other are a splice
 stores : (l : List ℕ) (at : ℕ) (vs : List ℕ) → at + length vs ≤ length l → sets l at vs ≡ splice l at vs
@@ -46,3 +46,16 @@ four-bytes l at =
     let e2 : at + 2 ≡ suc (suc at) = omega arith in
     let e3 : at + 3 ≡ suc (suc (suc at)) = omega arith in
     rw (e1, e2, e3, number-suc l at 3, number-suc l (suc at) 2, number-suc l (suc (suc at)) 1, number-suc l (suc (suc (suc at))) 0, number-none) (omega arith)
+
+-- a word and its four bytes
+pub record Made-of (w a b c d : ℕ) : Type 0 where
+  pub first : w % 256 ≡ a
+  pub second : w / 256 % 256 ≡ b
+  pub third : w / 65536 % 256 ≡ c
+  pub fourth : w / 16777216 ≡ d
+
+apart-by : (w a b c d : ℕ) → a < 256 → b < 256 → c < 256 → w ≡ a + b * 256 + c * 65536 + d * 16777216 → Made-of w a b c d
+apart-by w a b c d ha hb hc e = record { first = omega arith; second = omega arith; third = omega arith; fourth = omega arith }
+
+pub word-apart : (l : List ℕ) (at : ℕ) {w : ℕ} → Bytes l → w ≡ number l at 4 → Made-of w (number l at 1) (number l (at + 1) 1) (number l (at + 2) 1) (number l (at + 3) 1)
+word-apart l at {w} h e = rw (one-byte l at, one-byte l (at + 1), one-byte l (at + 2), one-byte l (at + 3)) (apart-by w _ _ _ _ (h at) (h (at + 1)) (h (at + 2)) (e ∙ four-bytes l at))
