@@ -11,6 +11,7 @@ holds the rows to the table's rule (and names the row that breaks it, which the 
     crates/table/proofs/DefaultWords.antt the words that make the defaults out of zeros
     crates/table/specs/Places.antt the places that have names
     crates/table/src/place.rt      the same as constants
+    crates/table/src/row.rt        the rows that have names
     crates/rows/stdout             what the program `rows` must print
 
 With --check it writes nothing and fails if a file is not what it would write.
@@ -35,6 +36,9 @@ PLACES = [
     ("latched-status", 0xF390, 0x00), ("latched-word", 0xF393, 0x01), ("trip-outputs", 0xF641, 0x01),
     ("power-on-time", 0xF9F6, 0x00), ("reset-status", 0xFBF0, 0x02), ("exception-status", 0xFBF1, 0x02),
     ("store-status", 0xFBF2, 0x02), ("load-status", 0xFBF4, 0x02)]
+
+# rows that the code knows by name
+ROWS = [("device-reset", 0xFBF0, 0x01), ("exception-reset", 0xFBF1, 0x01), ("store-parameters", 0xFBF2, 0x01), ("load-parameters", 0xFBF4, 0x01)]
 
 # a command's response stands behind its status
 RESPONSES = [
@@ -256,6 +260,14 @@ def place_rt(rows):
     return text
 
 
+def row_rt(rows):
+    number = {(row["index"], row["sub"]): i for i, row in enumerate(rows)}
+    text = "// The rows that have names. tools/table.py writes this file.\n"
+    for name, index, sub in ROWS:
+        text += "\n// %04X:%02X\npub const %s: usize = %d;\n" % (index, sub, name.replace("-", "_").upper(), number[index, sub])
+    return text
+
+
 def limit_pairs(rows):
     """The pairs of limits that occur, no limits first, and for each row the number of its pair; a ULINT takes every number."""
     own = [(0, 0) if row["kind"] == "ULINT" else (row["low"], row["high"]) for row in rows]
@@ -365,6 +377,7 @@ def main():
         "crates/table/proofs/DefaultWords.antt": words_antt(rows, end),
         "crates/table/specs/Places.antt": places_antt(rows),
         "crates/table/src/place.rt": place_rt(rows),
+        "crates/table/src/row.rt": row_rt(rows),
         "crates/rows/stdout": "".join(printed(row) for row in rows),
     }
     stale = []

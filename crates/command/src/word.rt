@@ -1,9 +1,12 @@
 // The four command words.
 use table::place;
+use table::row;
 ghost use mathlib.Core.Path.{_≡_};
-ghost use Prim.Native.Nat.{_+_, _≤_};
+ghost use Prim.Native.Nat.{_+_, _≤_, _<_};
 ghost use lib.ListN.{length, replicate};
 ghost use Rattle.wire.specs.Splice.{splice};
+ghost use Rattle.table.specs.Row.{COMMAND};
+ghost use Rattle.table.specs.Rows.{row-count, at-row};
 ghost use Rattle.command.specs.Words.{command-at, word-of, read-word, status-of, with-status, same-bytes};
 
 pub enum Command {
@@ -13,14 +16,15 @@ pub enum Command {
     LoadParameters,
 }
 
-// The command of a command word's index.
-pub fn command_at(index: u16) -> Command
-    ensures { λ r. ⌜ r ≡ command-at index ⌝ }
+// The command of a command word's row.
+pub fn command_at(row: usize) -> Command
+    requires { ⌜ (row < row-count) × (at-row row .kind ≡ COMMAND) ⌝ }
+    ensures { λ r. ⌜ r ≡ command-at (at-row row .index) ⌝ }
 {
-    match index {
-        0xFBF0 => Command::DeviceReset,
-        0xFBF1 => Command::ExceptionReset,
-        0xFBF2 => Command::StoreParameters,
+    match row {
+        row::DEVICE_RESET => Command::DeviceReset,
+        row::EXCEPTION_RESET => Command::ExceptionReset,
+        row::STORE_PARAMETERS => Command::StoreParameters,
         _ => Command::LoadParameters,
     }
 }

@@ -1,6 +1,7 @@
 // The setup lock.
 use table::field;
 use table::place;
+use table::row;
 ghost use mathlib.Core.Path.{_≡_};
 ghost use Prim.Native.Nat.{_<_};
 ghost use lib.ListN.{length};
@@ -19,7 +20,7 @@ fn guards(row: usize, kind: u8) -> bool
         return true;
     }
     if kind == 8 {
-        return field::index_of(row) == 0xFBF4;
+        return row == row::LOAD_PARAMETERS;
     }
     false
 }

@@ -1,18 +1,17 @@
 -- A whole read gives as many bytes as its row says. Assumes nothing.
 use mathlib.Core.Path.{_≡_, refl, sym, ap, _∙_}
-use mathlib.Core.Bool.{Bool, true, false}
+use mathlib.Core.Bool.{Bool, true}
 use mathlib.Core.List.{List}
 use mathlib.Core.Logic.{_⊎_, inl, inr}
 use Prim.Native.Nat.{ℕ, _<_}
 use native.Mathlib.Omega.{arith}
 use lib.Dec.{T, eqb, eqb→eq}
 use lib.ListN.{length, take, drop}
-use borrow.Author.Tests.{eqb-true, eqb-false}
 use Rattle.table.specs.Row.{Row, no-row, CARD, COMMAND}
 use Rattle.table.specs.Rows.{rows, row-count, at-row}
 use Rattle.table.specs.Walk.{every}
 use Rattle.table.specs.Rule.{pick}
-use Rattle.table.proofs.Walks.{every-at}
+use Rattle.table.proofs.Walks.{every-at, same-or-not}
 use Rattle.table.proofs.Table.{row-rule, rows-length}
 use Rattle.entry.specs.Entry.{entry-of}
 use Rattle.entry.proofs.EntryLaws.{entry-length}
@@ -34,16 +33,9 @@ word-length : (k : ℕ) → k < row-count → at-row k .kind ≡ COMMAND → len
 unfolding word-fits pick
 word-length k h e = eqb→eq _ _ (rw e at (every-at word-fits rows no-row words-fit k (omega (arith, rows-length))))
 
-is-it : (a b : ℕ) → (a ≡ b) ⊎ (a ≡ b → ⊥)
-is-it a b = go (eqb a b) refl
-  where
-    go : (d : Bool) → eqb a b ≡ d → (a ≡ b) ⊎ (a ≡ b → ⊥)
-    go true e = inl (eqb-true a b e)
-    go false e = inr (eqb-false a b e)
-
 pub value-length : (k : ℕ) → k < row-count → (values : List ℕ) → length values ≡ 1024 → length (value-of (at-row k) values) ≡ at-row k .len
 unfolding value-of
-value-length k h values n = go (is-it (at-row k .kind) CARD) (is-it (at-row k .kind) COMMAND)
+value-length k h values n = go (same-or-not (at-row k .kind) CARD) (same-or-not (at-row k .kind) COMMAND)
   where
     go : (at-row k .kind ≡ CARD) ⊎ (at-row k .kind ≡ CARD → ⊥) → (at-row k .kind ≡ COMMAND) ⊎ (at-row k .kind ≡ COMMAND → ⊥) → length (value-of (at-row k) values) ≡ at-row k .len
     go (inl c) d =

@@ -4,7 +4,6 @@ use command::exception;
 use command::word;
 use command::word::Command;
 use gate::lock;
-use table::field;
 ghost use mathlib.Core.Path.{_≡_};
 ghost use Prim.Native.Nat.{_<_};
 ghost use lib.ListN.{length};
@@ -91,7 +90,7 @@ fn put(values: &mut [u8], block: &mut [u8], row: usize, kind: u8, bytes: &[u8]) 
         return Ending::Accepted;
     }
     if kind == 8 {
-        return obey(values, block, word::command_at(field::index_of(row)), bytes);
+        return obey(values, block, word::command_at(row), bytes);
     }
     entry::store_entry(values, row, bytes);
     Ending::Accepted

@@ -67,7 +67,7 @@ fn short_answer(values: &[u8], k: Key, row: usize, kind: u8, len: usize) -> [u8;
         let place = table::field::place_of(row);
         return answer::opened_short(k, &values[place..place + len], len);
     }
-    let held = gauge::read::value_of(values, row, k.index, kind, len);
+    let held = gauge::read::value_of(values, row, kind, len);
     answer::opened_short(k, &held, len)
 }
 
@@ -81,7 +81,7 @@ fn open_row(values: &[u8], state: &mut [u8], at: usize, k: Key, row: usize, shap
     if answer::is_short(len) {
         return reply::ended(state, at, short_answer(values, k, row, kind, len));
     }
-    let held = gauge::read::value_of(values, row, k.index, kind, len);
+    let held = gauge::read::value_of(values, row, kind, len);
     let next = record::opened(Direction::Reads, row, held, len);
     reply::going(state, at, next, answer::opened_long(k, len))
 }

@@ -8,4 +8,5 @@ pub mod Shapes
 pub mod Way
 pub mod ColumnLaws
 pub mod Placed
+pub mod CommandRows
 pub mod DefaultWords

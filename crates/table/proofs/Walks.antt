@@ -3,10 +3,10 @@ use mathlib.Core.Bool.{Bool, true, false, _&&_}
 use mathlib.Core.List.{List, [], _∷_}
 use Prim.Native.Nat.{ℕ, zero, suc, _<_, _≤_}
 use native.Mathlib.Nat.{le-of-suc-le-suc, not-suc-le-zero}
-use lib.Dec.{T, ltb}
+use lib.Dec.{T, ltb, eqb}
 use mathlib.Core.Path.{_≡_, refl}
 use mathlib.Core.Logic.{_⊎_, inl, inr}
-use borrow.Author.Tests.{ltb-true, ltb-false}
+use borrow.Author.Tests.{ltb-true, ltb-false, eqb-true, eqb-false}
 use lib.ListN.{length, getD}
 use Rattle.wire.proofs.Writes.{and-left, and-right}
 use Rattle.table.specs.Walk.{both, all, every, linked, chain}
@@ -17,6 +17,13 @@ lt-or-ge m n = go (ltb m n) refl
     go : (b : Bool) → ltb m n ≡ b → (m < n) ⊎ (n ≤ m)
     go true e = inl (ltb-true m n e)
     go false e = inr (ltb-false m n e)
+
+pub same-or-not : (a b : ℕ) → (a ≡ b) ⊎ (a ≡ b → ⊥)
+same-or-not a b = go (eqb a b) refl
+  where
+    go : (d : Bool) → eqb a b ≡ d → (a ≡ b) ⊎ (a ≡ b → ⊥)
+    go true e = inl (eqb-true a b e)
+    go false e = inr (eqb-false a b e)
 
 pub T-true : (b : Bool) → T b → b ≡ true
 T-true true t = refl

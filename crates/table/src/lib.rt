@@ -2,6 +2,7 @@
 pub mod columns;
 pub mod field;
 pub mod place;
+pub mod row;
 
 ghost use mathlib.Core.Bool.{_&&_};
 ghost use mathlib.Core.Path.{_≡_};

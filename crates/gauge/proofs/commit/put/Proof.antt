@@ -17,9 +17,6 @@ returns c =
     let s = c .before .before .before .before .before .before .before .before in
     put-card (s .args .values .now) (s .args .block .now) (at-row (s .args .row)) (s .args .bytes .now) (s .args .kind) (s .pre .3) (c .before .before .before .before .if1 .taken) (c .before .before .write .ensures)
 
-index-of-requires : tie.Need-index-of-requires
-index-of-requires c κs = search needs
-
 command-at-requires : tie.Need-command-at-requires
 command-at-requires c κs = search needs
 
@@ -34,8 +31,8 @@ same-length-3 c = search needs
 
 returns-2 : tie.Need-returns-2
 returns-2 c =
-    let s = c .before .before .before .before .before .before .before .before .before .before .before .before .before .before in
-    put-command (s .args .values .now) (s .args .block .now) (at-row (s .args .row)) (s .args .bytes .now) (s .args .kind) (s .pre .3) (c .before .before .before .before .before .before .before .before .before .if2 .taken) (c .before .before .before .before .obey .ensures ∙ rw (c .before .before .before .before .before .command-at .ensures, c .before .before .before .before .before .before .index-of .ensures))
+    let s = c .before .before .before .before .before .before .before .before .before .before .before .before .before in
+    put-command (s .args .values .now) (s .args .block .now) (at-row (s .args .row)) (s .args .bytes .now) (s .args .kind) (s .pre .3) (c .before .before .before .before .before .before .before .before .if2 .taken) (c .before .before .before .before .obey .ensures ∙ rw (c .before .before .before .before .before .command-at .ensures))
 
 store-entry-requires : tie.Need-store-entry-requires
 store-entry-requires c κs =
@@ -57,7 +54,6 @@ put-spec =
     write-requires
     same-length
     returns
-    index-of-requires
     command-at-requires
     obey-requires
     same-length-2

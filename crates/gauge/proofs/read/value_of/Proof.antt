@@ -1,9 +1,10 @@
 -- `gauge::read::value_of`: each return is one law, given what the calls ensure. Assumes nothing.
-use mathlib.Core.Path.{_≡_, _∙_}
+use mathlib.Core.Path.{_≡_, sym, _∙_}
+use Prim.Native.Nat.{ℕ, _<_, _≤_}
 use native.Mathlib.Omega.{arith}
 use borrow.Author.Needs.{needs}
-use Rattle.table.specs.Row.{COMMAND}
-use Rattle.table.specs.Rows.{at-row}
+use Rattle.table.specs.Row.{CARD, COMMAND}
+use Rattle.table.specs.Rows.{row-count, at-row}
 use Rattle.table.proofs.Table.{row-rule}
 use Rattle.gauge.proofs.CommitLaws.{read-card, read-command, read-other}
 use Rattle.gauge.proofs.read.value_of.Statement.{statement}
@@ -16,7 +17,7 @@ returns : tie.Need-returns
 returns c =
     let s = c .before .before .before in
     let below = c .before .if1 .taken in
-    read-other (at-row (s .args .row)) (s .args .values .now) (s .args .kind) (s .pre .3) (λ e. omega (arith, e, below)) (λ e. omega (arith, e, below)) (c .read-entry .ensures)
+    read-other (at-row (s .args .row)) (s .args .values .now) (s .args .kind) (s .pre .2) (λ e. omega (arith, e, below)) (λ e. omega (arith, e, below)) (c .read-entry .ensures)
 
 card-of-requires : tie.Need-card-of-requires
 card-of-requires c κs = search needs
@@ -24,10 +25,16 @@ card-of-requires c κs = search needs
 returns-2 : tie.Need-returns-2
 returns-2 c =
     let s = c .before .before .before .before in
-    read-card (at-row (s .args .row)) (s .args .values .now) (s .args .kind) (s .pre .3) (c .before .if2 .taken) (c .card-of .ensures)
+    read-card (at-row (s .args .row)) (s .args .values .now) (s .args .kind) (s .pre .2) (c .before .if2 .taken) (c .card-of .ensures)
+
+-- what is neither stored nor the card is a command word
+last : (row kind : ℕ) → row < row-count → kind ≡ at-row row .kind → 7 ≤ kind → (kind ≡ CARD → ⊥) → kind ≡ COMMAND
+last row kind h e l n = omega (arith, row-rule row h .kind-known, e, l, n)
 
 command-at-requires : tie.Need-command-at-requires
-command-at-requires c κs = search needs
+command-at-requires c κs =
+    let s = c .before .before .before in
+    (s .pre .1, sym (s .pre .2) ∙ last (s .args .row) (s .args .kind) (s .pre .1) (s .pre .2) (c .before .if1 .left) (c .if2 .left))
 
 reading-requires : tie.Need-reading-requires
 reading-requires c κs = search needs
@@ -35,8 +42,7 @@ reading-requires c κs = search needs
 returns-3 : tie.Need-returns-3
 returns-3 c =
     let s = c .before .before .before .before .before in
-    let last : s .args .kind ≡ COMMAND = omega (arith, row-rule (s .args .row) (s .pre .1) .kind-known, s .pre .3, c .before .before .before .if1 .left, c .before .before .if2 .left) in
-    read-command (at-row (s .args .row)) (s .args .values .now) (s .args .kind) (s .pre .3) last (c .reading .ensures ∙ rw (c .before .command-at .ensures, s .pre .2))
+    read-command (at-row (s .args .row)) (s .args .values .now) (s .args .kind) (s .pre .2) (last (s .args .row) (s .args .kind) (s .pre .1) (s .pre .2) (c .before .before .before .if1 .left) (c .before .before .if2 .left)) (c .reading .ensures ∙ rw (c .before .command-at .ensures))
 
 pub value-of-spec : {M : Type 1} → statement M
 value-of-spec =

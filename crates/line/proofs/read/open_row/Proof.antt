@@ -4,7 +4,6 @@ use native.Mathlib.Omega.{arith}
 use borrow.Author.Needs.{needs}
 use Rattle.table.proofs.Table.{row-rule}
 use Rattle.table.proofs.Shapes.{kind-told, len-told}
-use Rattle.sdo.specs.declared.Key.{Key}
 use Rattle.sdo.proofs.Facts.{said}
 use Rattle.sdo.proofs.ReplyLaws.{short-in, read-long}
 use Rattle.line.specs.Answering.{replied}
@@ -45,7 +44,7 @@ value-of-requires : tie.Need-value-of-requires
 value-of-requires c κs =
     let l = c .before .before in
     let s = l .before .before .before .before in
-    (s .pre .0, s .pre .2, ap (λ (q : Key). q .index) (s .pre .3), kind-told (s .args .row) (s .pre .2) (s .pre .4) (l .before .kind-in .ensures), len-told (s .args .row) (s .pre .2) (s .pre .4) (l .len-in .ensures))
+    (s .pre .0, s .pre .2, kind-told (s .args .row) (s .pre .2) (s .pre .4) (l .before .kind-in .ensures), len-told (s .args .row) (s .pre .2) (s .pre .4) (l .len-in .ensures))
 
 opened-requires : tie.Need-opened-requires
 opened-requires c κs = search needs

@@ -9,7 +9,6 @@ use borrow.Author.Needs.{needs}
 use Rattle.order.specs.Talk.{opened}
 use Rattle.table.proofs.Table.{placed}
 use Rattle.sdo.specs.Eight.{answerOf}
-use Rattle.sdo.specs.declared.Key.{Key}
 use Rattle.line.proofs.Doors.{shown-whole, shown-part}
 use Rattle.line.proofs.read.short_answer.Statement.{statement}
 use Rattle.line.proofs.read.short_answer.Tie as tie
@@ -45,7 +44,7 @@ returns c =
     ∙ ap (λ (l : List ℕ). answerOf (opened (s .args .k) (s .args .len) l true)) (shown-part (s .args .values .now) (s .args .row) (s .pre .1 .0) (s .pre .0) (s .pre .3) (omega (arith, s .pre .2, c .before .before .before .if1 .taken)) (ap₂ (λ (m a : ℕ). take m (drop a (s .args .values .now))) n (p .ensures)))
 
 value-of-requires : tie.Need-value-of-requires
-value-of-requires c κs = let s = c .before .before in (s .pre .0, s .pre .1 .0, ap (λ (q : Key). q .index) (s .pre .1 .1), s .pre .2, s .pre .3)
+value-of-requires c κs = let s = c .before .before in (s .pre .0, s .pre .1 .0, s .pre .2, s .pre .3)
 
 slice-aggregate-opened-short : tie.Need-slice-aggregate-opened-short
 slice-aggregate-opened-short c = search needs
