@@ -145,6 +145,3 @@ bits-packed (suc n) bs h g =
 
 pub bytes-of : (s : List ℕ) → Bytes s → packed (length s) (bits s) ≡ s
 bytes-of s h = ap (packed (length s)) (sym (append-nil (bits s))) ∙ packed-bits s [] h
-
-pub bits-same : (s t : List ℕ) → Bytes s → Bytes t → length s ≡ length t → bits s ≡ bits t → s ≡ t
-bits-same s t hs ht n e = sym (bytes-of s hs) ∙ ap (λ (k : ℕ). packed k (bits s)) n ∙ ap (packed (length t)) e ∙ bytes-of t ht

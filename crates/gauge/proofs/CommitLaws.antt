@@ -7,7 +7,7 @@ use native.Mathlib.Omega.{arith}
 use lib.ListN.{replicate}
 use borrow.Author.Tests.{eq-eqb, ne-eqb}
 use Rattle.wire.specs.Splice.{splice}
-use Rattle.order.specs.Talk.{Outcome, stored}
+use Rattle.order.specs.Talk.{stored}
 use Rattle.table.specs.Row.{Row, CARD, COMMAND}
 use Rattle.table.specs.Rows.{row-count, at-row}
 use Rattle.table.specs.Rule.{held}
@@ -27,7 +27,7 @@ use Rattle.command.specs.Words.{command-at, word-of, read-word, with-status, sa
 use Rattle.command.specs.Exceptions.{exceptions-cleared}
 use Rattle.command.specs.declared.word.Command.{Command}
 use Rattle.command.specs.declared.word.Command.the-variants.{DeviceReset, ExceptionReset, StoreParameters, LoadParameters}
-use Rattle.gauge.specs.Memory.{Memory, memory-of}
+use Rattle.gauge.specs.Memory.{memory-of}
 use Rattle.gauge.specs.PowerUp.{fresh-values, powered-up}
 use Rattle.gauge.specs.Commands.{status-by, done, obeyed}
 use Rattle.gauge.specs.Endings.{Left, left, left-by}
@@ -113,10 +113,6 @@ module _ (v b : List ℕ) where
   word-wrong c bytes e q = rw (e, q)
 
   -- ---- what an accepted write does
-
-  pub stored-values : {v′ : List ℕ} (o : Outcome Memory) → o ≡ stored (memory-of v′ b) → left Accepted v′ b ≡ left-by (memory-of v b) o
-  unfolding left-by
-  stored-values o e = rw e
 
   module _ (r : Row) (bytes : List ℕ) (k : ℕ) (kind : k ≡ r .kind) where
     pub put-card : {v′ : List ℕ} → k ≡ CARD → v′ ≡ with-card v bytes → left Accepted v′ b ≡ left-by (memory-of v b) (effect r bytes (memory-of v b))

@@ -74,7 +74,7 @@ pub fn all_off() -> Trips
     Trips { one: off, two: off }
 }
 
-// A sample counts as valid: its flag is not 0, and the pressure is not negative and finite: what is not has no difference to itself.
+// A sample counts as valid: its flag is not 0, and the pressure is not negative and is finite. An infinity less itself is NaN.
 pub fn usable(p: f32, valid: u8) -> bool
     ensures { λ r. ⌜ r ≡ usable-pressure p valid ⌝ }
 {
