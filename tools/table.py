@@ -51,6 +51,11 @@ SETTINGS = [
     ("low-hysteresis", 0x18)]
 
 
+def key(row):
+    """Index and subindex in one number."""
+    return row["index"] * 256 + row["sub"]
+
+
 def is_number(row):
     return KINDS.index(row["kind"]) <= 5
 
@@ -114,10 +119,9 @@ def broken_rules(rows, end):
     previous = -1
     for row in rows:
         say = lambda words: "%04X:%02X %s" % (row["index"], row["sub"], words)
-        key = row["index"] * 256 + row["sub"]
-        if key <= previous:
+        if key(row) <= previous:
             yield say("does not come after the row before it")
-        previous = key
+        previous = key(row)
         if row["kind"] not in KINDS or row["access"] not in ACCESS:
             yield say("has an unknown type or access")
             continue
@@ -144,8 +148,10 @@ def broken_rules(rows, end):
         yield "the values end at byte %d" % end
     if block_end(rows) > BLOCK_BITS:
         yield "the saved block needs %d bits" % block_end(rows)
-    if len(rows) > 511:
-        yield "there are %d rows" % len(rows)
+    if not 128 < len(rows) <= 511:
+        yield "there are %d rows: the table has at most 511, and the search has a page from row 128 on" % len(rows)
+    if len(limit_pairs(rows)[0]) > 64:
+        yield "there are more than 64 pairs of limits"
 
 
 def shown(row, field):
@@ -326,11 +332,9 @@ def columns_rt(rows, end):
     words = default_words(rows, end)
     nv = nv_rows(rows)
     columns = [
-        ("INDEX", "u16", [r["index"] for r in rows]),
-        ("SUB", "u8", [r["sub"] for r in rows]),
+        ("KEY", "u32", [key(r) for r in rows]),
         ("SHAPE", "u16", [shape(r) for r in rows]),
-        ("PLACE", "u16", [r["place"] for r in rows]),
-        ("LIMITS", "u8", numbers),
+        ("PLACING", "u16", [r["place"] + VALUES * number for r, number in zip(rows, numbers)]),
         ("DEFAULT", "u32", [r["def"] for r in rows]),
         ("MINIMUM", "u32", [low for low, _ in pairs]),
         ("MAXIMUM", "u32", [high for _, high in pairs]),
@@ -344,9 +348,10 @@ def columns_rt(rows, end):
         ("NV_HIGH", "u32", [rank(r, r["high"]) if is_number(r) else 2**32 - 1 for r in nv]),
     ]
     text = """// The object table as flat constant arrays. tools/table.py writes this file from docs/object-table.md.
-// A column that is read is laid out on the stack, so columns are few and narrow: SHAPE has for each row type, access, NV mark and
-// length in one number, and LIMITS the number of its limits in MINIMUM and MAXIMUM, since few pairs serve all rows. A ULINT's limits are
-// not there: it takes every number. WORD_PLACE and WORD have the words that make the defaults out of zeros.
+// A column that is read is laid out on the stack, so columns are few and narrow: KEY has for each row index and subindex in one number,
+// SHAPE type, access, NV mark and length, and PLACING its place in the values and the number of its limits in MINIMUM and MAXIMUM, since
+// few pairs serve all rows. A ULINT's limits are not there: it takes every number. WORD_PLACE and WORD have the words that make the
+// defaults out of zeros.
 // NV_.. has the NV rows alone: the bit of the saved block at which each entry begins (and the last ends), and its limits as places in
 // the order of its type. NV_CUT has the bits that are looked at as a number: of a string the first 32, which its NV_LOW and NV_HIGH do
 // not refuse.
@@ -373,7 +378,7 @@ def main():
         PAGE: page_with_places(page, rows),
         "crates/table/specs/Rows.antt": rows_antt(rows),
         "crates/table/src/columns.rt": columns_rt(rows, end),
-        "crates/table/proofs/Pairs.antt": pairs_antt(rows),
+        "crates/table/specs/Pairs.antt": pairs_antt(rows),
         "crates/table/proofs/DefaultWords.antt": words_antt(rows, end),
         "crates/table/specs/Places.antt": places_antt(rows),
         "crates/table/src/place.rt": place_rt(rows),

@@ -2,7 +2,6 @@ pub mod Walks
 pub mod Rules
 pub mod Widths
 pub mod Searched
-pub mod Pairs
 pub mod Table
 pub mod Shapes
 pub mod Way

@@ -1,113 +1,115 @@
--- The way to a row on rising keys: rows below the key are passed over, and what stands where none is left decides. Assumes nothing.
-use mathlib.Core.Path.{_≡_, sym, ap, _∙_}
-use mathlib.Core.Bool.{Bool, true, false, _&&_}
-use mathlib.Core.Logic.{_⊎_, inl, inr, ⊎-elim}
-use Prim.Native.Nat.{ℕ, _+_, _-_, _<_, _≤_}
+-- The way to a row on rising keys: where the rows below the key end, what stands there decides. Assumes nothing.
+use mathlib.Core.Path.{_≡_, sym, ap}
+use mathlib.Core.Logic.{⊎-elim}
+use Prim.Native.Nat.{ℕ, _+_, _-_, _/_, _%_, _<_, _≤_}
 use native.Mathlib.Omega.{arith}
-use lib.Dec.{ltb, eqb}
-use borrow.Author.Tests.{ltb-true, eqb-true, lt-ltb, le-ltb, eq-eqb}
+use lib.Dec.{eqb}
+use borrow.Author.Tests.{eq-eqb, ne-eqb}
 use Rattle.table.specs.Rows.{rows, row-count, at-row}
 use Rattle.table.specs.Rule.{key}
-use Rattle.table.specs.Find.{wanted, find-row, Passed}
+use Rattle.table.specs.Find.{absence, find-key, Near}
 use Rattle.table.specs.declared.Found.the-variants.{At, NoIndex, NoSub}
 use Rattle.table.proofs.Table.{rows-length, row-rule, before, row-found, no-sub-find, no-index-find}
-use Rattle.table.proofs.Walks.{lt-or-ge, and-true}
+use Rattle.table.proofs.Walks.{lt-or-ge, same-or-not}
 use Rattle.table.proofs.Searched.{No-key}
 
-pub key-rises : (j k : ℕ) → j ≤ k → k < row-count → key (at-row j) ≤ key (at-row k)
+key-rises : (j k : ℕ) → j ≤ k → k < row-count → key (at-row j) ≤ key (at-row k)
 key-rises j k h l = ⊎-elim
     (λ (a : j < k). omega (arith, before j k a l .rise))
     (λ (a : k ≤ j). let e : j ≡ k = omega arith in omega (arith, ap (λ (m : ℕ). key (at-row m)) e))
     (lt-or-ge j k)
 
--- ---- the tests of a row
+-- index and subindex of a row out of its key
+pub index-in : (r : ℕ) → r < row-count → key (at-row r) / 256 ≡ at-row r .index
+unfolding key
+index-in r l = omega (arith, row-rule r l .sub-byte)
 
--- tests of numbers that stand in the same order
-same-order : (a b c d : ℕ) → (a < b → c < d) → (b ≤ a → d ≤ c) → ltb a b ≡ ltb c d
-same-order a b c d f g = ⊎-elim
-    (λ (h : a < b). lt-ltb a b h ∙ sym (lt-ltb c d (f h)))
-    (λ (h : b ≤ a). le-ltb a b h ∙ sym (le-ltb c d (g h)))
-    (lt-or-ge a b)
+pub sub-in : (r : ℕ) → r < row-count → key (at-row r) % 256 ≡ at-row r .sub
+unfolding key
+sub-in r l = omega (arith, row-rule r l .sub-byte)
 
-module _ (r i s : ℕ) (l : r < row-count) (small : s < 256) where
-  pub below-by-sub : at-row r .index ≡ i → ltb (at-row r .sub) s ≡ ltb (key (at-row r)) (wanted i s)
-  unfolding key
-  below-by-sub e = same-order (at-row r .sub) s (key (at-row r)) (wanted i s) (λ h. omega arith) (λ h. omega arith)
+-- ---- a hop
 
-  pub below-by-index : (at-row r .index ≡ i → ⊥) → ltb (at-row r .index) i ≡ ltb (key (at-row r)) (wanted i s)
-  unfolding key
-  below-by-index d =
-      let b = row-rule r l .sub-byte in
-      let n : (at-row r .index < i) ⊎ (i < at-row r .index) = order-of d in
-      same-order (at-row r .index) i (key (at-row r)) (wanted i s) (λ h. omega arith) (λ h. ⊎-elim (λ (q : at-row r .index < i). absurd (omega arith)) (λ (q : i < at-row r .index). omega arith) n)
-    where
-      order-of : (at-row r .index ≡ i → ⊥) → (at-row r .index < i) ⊎ (i < at-row r .index)
-      order-of d = ⊎-elim (λ (q : at-row r .index < i). inl q) (λ (q : i ≤ at-row r .index). inr (omega arith)) (lt-or-ge (at-row r .index) i)
-
--- the row has the index, or it has not
-module _ (r i : ℕ) (b : Bool) (e : b ≡ (ltb r row-count && eqb (at-row r .index) i)) where
-  pub has-it : b ≡ true → (r < row-count) × (at-row r .index ≡ i)
-  has-it t =
-      let q = and-true (ltb r row-count) (eqb (at-row r .index) i) (sym e ∙ t) in
-      (ltb-true _ _ (q .0), eqb-true _ _ (q .1))
-
-  pub has-not : b ≡ false → r < row-count → at-row r .index ≡ i → ⊥
-  has-not t l k = let z : true ≡ false = sym (simp (lt-ltb r row-count l, eq-eqb (at-row r .index) i k)) ∙ sym e ∙ t in let y : _≡_ {A = ℕ} 0 1 = cc in omega arith
-
--- ---- passing rows over
-
-pub hopped : (r n i s : ℕ) → 1 ≤ n → Passed (n + n) r i s → r + n ≤ row-count → key (at-row (r + n - 1)) < wanted i s → Passed n (r + n) i s
-hopped r n i s one p h g =
+pub hopped : (r n k : ℕ) → Near (n + n) r k → r + n < row-count → key (at-row (r + n)) < k → Near n (r + n) k
+hopped r n k near h g =
     record {
-      below = record { inside = h; none = λ m l. omega (arith, key-rises m (r + n - 1) (omega arith) (omega arith)) };
-      reached = λ q. let e : r + (n + n) - 1 ≡ r + n + n - 1 = omega arith in rw e at (p .reached (omega arith));
+      inside = h;
+      below = g;
+      reached = λ q. let e : r + (n + n) ≡ r + n + n = omega arith in rw e at (near .reached (omega arith));
     }
 
--- ---- where no row is left below the key
+pub stayed : (r n k : ℕ) → Near (n + n) r k → (r + n < row-count → k ≤ key (at-row (r + n))) → Near n (r + 0) k
+stayed r n k near g = let e : r + 0 ≡ r = omega arith in rw e (record { inside = near .inside; below = near .below; reached = g })
 
-module _ (r i s : ℕ) (small : s < 256) (p : Passed 1 r i s) where
-  -- the keys from r on are not below
-  from-here : (m : ℕ) → r ≤ m → m < row-count → wanted i s ≤ key (at-row m)
-  from-here m h l =
-      let e : r + 1 - 1 ≡ r = omega arith in
-      let t : wanted i s ≤ key (at-row r) = rw e at (p .reached (omega arith)) in
-      omega (arith, key-rises r m h l)
+-- ---- where the rows below the key end
 
+-- row r is the first that is not below the key
+pub record First (r k : ℕ) : Type 0 where
+  pub inside : r ≤ row-count
+  pub below : (m : ℕ) → m < r → key (at-row m) < k
+  pub from : (m : ℕ) → r ≤ m → m < row-count → k ≤ key (at-row m)
+
+pub first-behind : (b k : ℕ) → Near 1 b k → First (b + 1) k
+first-behind b k n =
+    record {
+      inside = omega (arith, n .inside);
+      below = λ m h. omega (arith, n .below, key-rises m b (omega arith) (n .inside));
+      from = λ m h l. omega (arith, n .reached (omega arith), key-rises (b + 1) m h l);
+    }
+
+pub first-of-all : (k : ℕ) → k ≤ key (at-row 0) → First 0 k
+first-of-all k h = record { inside = omega arith; below = λ m g. absurd (omega arith); from = λ m g l. omega (arith, key-rises 0 m (omega arith) l) }
+
+module _ (r k : ℕ) (f : First r k) where
   -- a row with the key is row r
-  only-here : (m : ℕ) → m < row-count → at-row m .index ≡ i → at-row m .sub ≡ s → (r < row-count) × (key (at-row r) ≡ wanted i s)
+  only-here : (m : ℕ) → m < row-count → at-row m .index ≡ k / 256 → at-row m .sub ≡ k % 256 → (r < row-count) × (key (at-row r) ≡ k)
   unfolding key
   only-here m l ei es = ⊎-elim
-      (λ (a : m < r). absurd (omega (arith, p .below .none m a)))
-      (λ (a : r ≤ m). (omega arith, omega (arith, from-here r (omega arith) (omega arith), key-rises r m a l)))
+      (λ (a : m < r). absurd (omega (arith, f .below m a)))
+      (λ (a : r ≤ m). (omega arith, omega (arith, f .from r (omega arith) (omega arith), key-rises r m a l)))
       (lt-or-ge m r)
 
-  no-key : (r < row-count → key (at-row r) ≡ wanted i s → ⊥) → No-key rows i s
+  no-key : (r < row-count → key (at-row r) ≡ k → ⊥) → No-key rows (k / 256) (k % 256)
   no-key d m l ei es = let h = only-here m (omega (arith, rows-length)) ei es in d (h .0) (h .1)
 
-  pub here : r < row-count → at-row r .index ≡ i → at-row r .sub ≡ s → At r ≡ find-row i s
-  here l ei es = sym (row-found i s r (record { there = l; index-is = ei; sub-is = es }))
+  -- no row has the key, and row m has the index
+  index-seen : (r < row-count → key (at-row r) ≡ k → ⊥) → (m : ℕ) → m < row-count → key (at-row m) / 256 ≡ k / 256 → NoSub ≡ find-key k
+  index-seen d m l e = sym (no-sub-find (k / 256) (k % 256) m (no-key d) l (omega (arith, e, index-in m l)))
 
-  pub other-sub : r < row-count → at-row r .index ≡ i → (at-row r .sub ≡ s → ⊥) → NoSub ≡ find-row i s
-  unfolding key
-  other-sub l ei es = sym (no-sub-find i s r (no-key (λ h e. es (omega arith))) l ei)
+  -- neither row r nor the row before it has the index
+  nowhere : (r < row-count → key (at-row r) / 256 ≡ k / 256 → ⊥) → (0 < r → key (at-row (r - 1)) / 256 ≡ k / 256 → ⊥) → NoIndex ≡ find-key k
+  nowhere here-not before-not =
+      sym (no-index-find (k / 256) (k % 256) (λ m l e. ⊎-elim (before-here m (omega (arith, rows-length)) e) (from-there m (omega (arith, rows-length)) e) (lt-or-ge m r)))
+    where
+      before-here : (m : ℕ) → m < row-count → at-row m .index ≡ k / 256 → m < r → ⊥
+      before-here m l e h =
+          let b = f .inside in
+          before-not (omega arith) (omega (arith, e, index-in m l, f .below (r - 1) (omega arith), key-rises m (r - 1) (omega arith) (omega arith)))
+
+      from-there : (m : ℕ) → m < row-count → at-row m .index ≡ k / 256 → r ≤ m → ⊥
+      from-there m l e h =
+          here-not (omega arith) (omega (arith, e, index-in m l, f .from r (omega arith) (omega arith), key-rises r m h l))
+
+  pub here : r < row-count → key (at-row r) ≡ k → At r ≡ find-key k
+  here l e = sym (row-found (k / 256) (k % 256) r (record { there = l; index-is = omega (arith, e, index-in r l); sub-is = omega (arith, e, sub-in r l) }))
+
+  -- row r has the index and another key
+  pub other-sub : r < row-count → key (at-row r) / 256 ≡ k / 256 → (key (at-row r) ≡ k → ⊥) → NoSub ≡ find-key k
+  other-sub l e d = index-seen (λ h. d) r l e
 
   -- row r has another index: the row before it tells
-  module _ (other : r < row-count → at-row r .index ≡ i → ⊥) where
-    not-here : r < row-count → key (at-row r) ≡ wanted i s → ⊥
-    unfolding key
-    not-here h e = other h (omega (arith, row-rule r h .sub-byte))
+  pub before-tells : (b : ℕ) → r ≡ b + 1 → (r < row-count → key (at-row r) / 256 ≡ k / 256 → ⊥) → absence (eqb (key (at-row b) / 256) (k / 256)) ≡ find-key k
+  before-tells b e other = ⊎-elim
+      (λ (q : key (at-row b) / 256 ≡ k / 256). rw (eq-eqb _ _ q) (index-seen (λ h o. other h (ap (λ (m : ℕ). m / 256) o)) b (let i = f .inside in omega arith) q))
+      (λ (d : key (at-row b) / 256 ≡ k / 256 → ⊥). rw (ne-eqb _ _ d) (nowhere other (λ h q. d (rw z at q))))
+      (same-or-not (key (at-row b) / 256) (k / 256))
+    where
+      z : r - 1 ≡ b
+      z = omega (arith, e)
 
-    pub sub-before : (m : ℕ) → m < row-count → at-row m .index ≡ i → NoSub ≡ find-row i s
-    sub-before m l ei = sym (no-sub-find i s m (no-key not-here) l ei)
-
-    pub nowhere : (0 < r → at-row (r - 1) .index ≡ i → ⊥) → NoIndex ≡ find-row i s
-    unfolding key
-    nowhere d = sym (no-index-find i s (λ m l e. ⊎-elim (before-here m e) (from-there m (omega (arith, rows-length)) e) (lt-or-ge m r)))
-      where
-        before-here : (m : ℕ) → at-row m .index ≡ i → m < r → ⊥
-        before-here m e h =
-            let b = p .below .inside in
-            d (omega arith) (omega (arith, p .below .none (r - 1) (omega arith), key-rises m (r - 1) (omega arith) (omega arith), row-rule m (omega arith) .sub-byte, row-rule (r - 1) (omega arith) .sub-byte))
-
-        from-there : (m : ℕ) → m < row-count → at-row m .index ≡ i → r ≤ m → ⊥
-        from-there m l e h = other (omega arith) (omega (arith, from-here r (omega arith) (omega arith), key-rises r m h l, row-rule m l .sub-byte, row-rule r (omega arith) .sub-byte))
+  -- no row is before row r: it tells itself
+  pub first-tells : r ≡ 0 → (key (at-row r) ≡ k → ⊥) → absence (eqb (key (at-row r) / 256) (k / 256)) ≡ find-key k
+  first-tells z d = ⊎-elim
+      (λ (e : key (at-row r) / 256 ≡ k / 256). rw (eq-eqb _ _ e) (index-seen (λ h. d) r (omega arith) e))
+      (λ (d : key (at-row r) / 256 ≡ k / 256 → ⊥). rw (ne-eqb _ _ d) (nowhere (λ h. d) (λ h. absurd (omega arith))))
+      (same-or-not (key (at-row r) / 256) (k / 256))

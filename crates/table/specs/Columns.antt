@@ -1,9 +1,10 @@
 -- The columns of the table. Code that walks the rows has them lent. Assumes nothing.
 use mathlib.Core.List.{List, map}
-use mathlib.Core.Path.{_≡_}
-use Prim.Native.Nat.{ℕ, _+_, _*_, _/_, _%_}
+use Prim.Native.Nat.{ℕ, _+_, _*_, _/_, _%_, _<_, _≤_}
+use lib.ListN.{getD}
 use Rattle.table.specs.Row.{Row}
-use Rattle.table.specs.Rows.{rows}
+use Rattle.table.specs.Rows.{rows, row-count, at-row}
+use Rattle.table.specs.Pairs.{pairs}
 
 -- one field of each row
 unfoldable pub column : (Row → ℕ) → List ℕ
@@ -25,7 +26,12 @@ nv-in s = s / 64 % 2
 abbrev pub len-in : ℕ → ℕ
 len-in s = s / 128
 
--- the two columns that the search walks
-pub record Lent (indices subs : List ℕ) : Type 0 where
-  pub indices-are : indices ≡ column (λ (r : Row). r .index)
-  pub subs-are : subs ≡ column (λ (r : Row). r .sub)
+-- place of a row and number of its limits in one number
+unfoldable pub placing : ℕ → ℕ
+placing k = at-row k .place + 1024 * getD pairs k 0
+
+-- the row stands on the page of 32 rows that begins with row p
+pub record On-page (p row : ℕ) : Type 0 where
+  pub from : p ≤ row
+  pub within : row < p + 32
+  pub there : row < row-count

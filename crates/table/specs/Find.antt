@@ -2,7 +2,7 @@
 -- Assumes nothing.
 use mathlib.Core.Bool.{Bool, true, false}
 use mathlib.Core.List.{List, [], _∷_}
-use Prim.Native.Nat.{ℕ, suc, _+_, _-_, _*_, _≤_, _<_}
+use Prim.Native.Nat.{ℕ, suc, _+_, _/_, _%_, _≤_, _<_}
 use lib.Dec.{eqb}
 use Rattle.table.specs.Row.{Row}
 use Rattle.table.specs.Rows.{rows, row-count, at-row}
@@ -32,16 +32,12 @@ find-from (r ∷ rs) n seen i s =
 unfoldable pub find-row : ℕ → ℕ → Found
 find-row i s = find-from rows 0 false i s
 
--- the number of a key, as `key` of a row
-abbrev pub wanted : ℕ → ℕ → ℕ
-wanted i s = i * 256 + s
+-- of a key that is one number, as `key` of a row
+abbrev pub find-key : ℕ → Found
+find-key k = find-row (k / 256) (k % 256)
 
--- on the way to a key: all rows before row r are below it
-pub record Below (r i s : ℕ) : Type 0 where
-  pub inside : r ≤ row-count
-  pub none : (m : ℕ) → m < r → key (at-row m) < wanted i s
-
--- and the next step of so many rows would lead to a row that is not
-pub record Passed (step r i s : ℕ) : Type 0 where
-  pub below : Below r i s
-  pub reached : r + step ≤ row-count → wanted i s ≤ key (at-row (r + step - 1))
+-- on the way to a key: row r is below it, and the row a step on is not
+pub record Near (step r k : ℕ) : Type 0 where
+  pub inside : r < row-count
+  pub below : key (at-row r) < k
+  pub reached : r + step < row-count → k ≤ key (at-row (r + step))

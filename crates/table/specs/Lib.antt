@@ -3,5 +3,6 @@ pub mod Rows
 pub mod Walk
 pub mod Rule
 pub mod Find
+pub mod Pairs
 pub mod Columns
 pub mod Places

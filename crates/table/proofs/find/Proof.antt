@@ -1,23 +1,31 @@
--- `table::find`: the columns lent to the search are the table's. Assumes nothing.
-use mathlib.Core.Path.{refl}
+-- `table::find`: the key's index and subindex. Assumes nothing.
+use mathlib.Core.Path.{_≡_, ap, _∙_}
+use Prim.Native.Nat.{ℕ, _+_, _*_, _/_, _%_}
+use native.Mathlib.Omega.{arith}
 use borrow.Author.Needs.{needs}
-use Rattle.table.specs.Rows.{rows}
-use Rattle.table.specs.Columns.{column}
+use Rattle.table.specs.Find.{find-row}
 use Rattle.table.proofs.find.Statement.{statement}
 use Rattle.table.proofs.find.Tie as tie
 
-slice-aggregate-search : tie.Need-slice-aggregate-search
-slice-aggregate-search c = search needs
+mul-find-key : tie.Need-mul-find-key
+mul-find-key c = search needs
 
-slice-aggregate-search-2 : tie.Need-slice-aggregate-search-2
-slice-aggregate-search-2 c = search needs
+to-u32-requires : tie.Need-to-u32-requires
+to-u32-requires c κs = search needs
 
-search-requires : tie.Need-search-requires
-unfolding rows column
-search-requires c κs = record { indices-are = refl; subs-are = refl }
+add-find-key : tie.Need-add-find-key
+add-find-key c = search needs
+
+find-key-requires : tie.Need-find-key-requires
+find-key-requires c κs = search needs
 
 returns : tie.Need-returns
-returns c = search needs
+returns c =
+    let s = c .before .before in
+    let k = s .args .index * 256 + c .before .to-u32 .result in
+    let i : k / 256 ≡ s .args .index = omega (arith, c .before .to-u32 .ensures) in
+    let b : k % 256 ≡ s .args .sub = omega (arith, c .before .to-u32 .ensures) in
+    c .find-key .ensures ∙ ap (λ (n : ℕ). find-row n (k % 256)) i ∙ ap (find-row (s .args .index)) b
 
 pub find-spec : {M : Type 1} → statement M
-find-spec = tie.close (tie.spec slice-aggregate-search slice-aggregate-search-2 search-requires returns)
+find-spec = tie.close (tie.spec mul-find-key to-u32-requires add-find-key find-key-requires returns)

@@ -1,32 +1,38 @@
--- `hop`: over the step or not at all. Assumes nothing.
-use mathlib.Core.Path.{sym, _∙_}
+-- `hop`: a step on or not at all. Assumes nothing.
+use Prim.Native.Nat.{_+_}
 use native.Mathlib.Omega.{arith}
-use borrow.Author.Tests.{ltb-true, ltb-false}
-use Rattle.table.proofs.Way.{hopped}
+use borrow.Author.Needs.{needs}
+use Rattle.table.specs.Rule.{key}
+use Rattle.table.proofs.ColumnLaws.{field-at, column-long}
+use Rattle.table.proofs.Way.{hopped, stayed}
 use Rattle.table.proofs.hop.Statement.{statement}
 use Rattle.table.proofs.hop.Tie as tie
 
 add-to : tie.Need-add-to
-add-to c = let s = c .before .before in omega (arith, s .pre .2, s .pre .3 .below .inside)
+add-to c = search needs
 
-sub-is-below : tie.Need-sub-is-below
-sub-is-below c = let s = c .before .before .before in omega (arith, s .pre .1)
+mul-if2 : tie.Need-mul-if2
+mul-if2 c = search needs
 
-is-below-requires : tie.Need-is-below-requires
-is-below-requires c κs = let s = c .before .before .before in (s .pre .0, omega (arith, s .pre .1))
+shared-slice-read-if2 : tie.Need-shared-slice-read-if2
+shared-slice-read-if2 c = let s = c .before .before in omega (arith, column-long key (s .args .keys .now) (s .pre .0))
 
 returns : tie.Need-returns
+unfolding key
 returns c =
-    let s = c .before .before .before .before .before in
-    hopped _ _ _ _ (s .pre .1) (s .pre .3) (omega arith) (ltb-true _ _ (sym (c .before .is-below .ensures) ∙ c .if2 .taken))
+    let s = c .before .before .before in
+    let u = field-at key (s .args .keys .now) (s .args .from + s .args .step) (s .pre .0) in
+    hopped _ _ _ (s .pre .2) (omega arith) (omega (arith, u))
 
 returns-2 : tie.Need-returns-2
+unfolding key
 returns-2 c =
-    let s = c .before .before .before .before .before in
-    record { below = s .pre .3 .below; reached = λ h. ltb-false _ _ (sym (c .before .is-below .ensures) ∙ c .if2 .left) }
+    let s = c .before .before .before in
+    let u = field-at key (s .args .keys .now) (s .args .from + s .args .step) (s .pre .0) in
+    stayed _ _ _ (s .pre .2) (λ h. omega (arith, u))
 
 returns-3 : tie.Need-returns-3
-returns-3 c = let s = c .before .before .before in record { below = s .pre .3 .below; reached = λ h. absurd (omega arith) }
+returns-3 c = let s = c .before in stayed _ _ _ (s .pre .2) (λ h. absurd (omega arith))
 
 pub hop-spec : {M : Type 1} → statement M
-hop-spec = tie.close (tie.spec add-to sub-is-below is-below-requires returns returns-2 returns-3)
+hop-spec = tie.close (tie.spec add-to mul-if2 shared-slice-read-if2 returns returns-2 returns-3)

@@ -1,20 +1,21 @@
--- `table::field::index_of`: the column is the field `index` of each row. Assumes nothing.
+-- `table::field::index_of`: out of the row's key. Assumes nothing.
+use mathlib.Core.Path.{ap, _∙_}
+use Prim.Native.Nat.{ℕ, _/_}
+use native.Mathlib.Omega.{arith}
 use borrow.Author.Needs.{needs}
-use lib.ListN.{List·getD-map}
-use Rattle.table.specs.Row.{Row, no-row}
-use Rattle.table.specs.Rows.{rows}
+use Rattle.table.proofs.Table.{row-rule}
+use Rattle.table.proofs.Way.{index-in}
 use Rattle.table.proofs.field.index_of.Statement.{statement}
 use Rattle.table.proofs.field.index_of.Tie as tie
 
-mul-result : tie.Need-mul-result
-mul-result c = search needs
+key-of-requires : tie.Need-key-of-requires
+key-of-requires c κs = search needs
 
-array-read-result : tie.Need-array-read-result
-array-read-result c = search needs
+cast-result : tie.Need-cast-result
+cast-result c = omega (arith, c .key-of .ensures, index-in (c .before .args .row) (c .before .pre), row-rule (c .before .args .row) (c .before .pre) .index-word)
 
 returns : tie.Need-returns
-unfolding rows
-returns c = List·getD-map (λ (r : Row). r .index) rows (c .args .row) no-row
+returns c = ap (λ (k : ℕ). k / 256) (c .key-of .ensures) ∙ index-in (c .before .args .row) (c .before .pre)
 
 pub index-of-spec : {M : Type 1} → statement M
-index-of-spec = tie.close (tie.spec mul-result array-read-result returns)
+index-of-spec = tie.close (tie.spec key-of-requires cast-result returns)

@@ -3,43 +3,41 @@ use mathlib.Core.Path.{ap, _∙_}
 use Prim.Native.Nat.{ℕ, _<_}
 use lib.ListN.{getD}
 use borrow.Author.Needs.{needs}
-use Rattle.table.proofs.ColumnLaws.{low-by-pair, high-by-pair, pair-there}
-use Rattle.table.proofs.Pairs.{pairs, minima, maxima, pair-count}
+use Rattle.table.specs.Pairs.{minima, maxima, pair-count}
+use Rattle.table.proofs.ColumnLaws.{pair-told, low-by-pair, high-by-pair, pair-there}
 use Rattle.table.proofs.field.limits_of.Statement.{statement}
 use Rattle.table.proofs.field.limits_of.Tie as tie
 
-array-read-to-usize : tie.Need-array-read-to-usize
-array-read-to-usize c = search needs
+placing-of-requires : tie.Need-placing-of-requires
+placing-of-requires c κs = search needs
 
-to-usize-requires : tie.Need-to-usize-requires
-to-usize-requires c κs = search needs
+pair-to-usize-requires : tie.Need-pair-to-usize-requires
+pair-to-usize-requires c κs = search needs
 
-mul-t8 : tie.Need-mul-t8
-mul-t8 c = search needs
+mul-t6 : tie.Need-mul-t6
+mul-t6 c = search needs
 
-array-read-t11 : tie.Need-array-read-t11
-unfolding pairs
-array-read-t11 c = let h : c .to-usize .result < pair-count = rw (c .to-usize .ensures .0) (pair-there (c .before .args .row) (c .before .pre .0)) in search needs
+array-read-t9 : tie.Need-array-read-t9
+array-read-t9 c =
+    let s = c .before .before in
+    let e = pair-told (s .args .row) (s .pre .0) (c .before .placing-of .ensures) (c .pair-to-usize .ensures .0) in
+    let h : c .pair-to-usize .result < pair-count = rw e (pair-there (s .args .row) (s .pre .0)) in search needs
 
-mul-t13 : tie.Need-mul-t13
-mul-t13 c = search needs
+mul-t11 : tie.Need-mul-t11
+mul-t11 c = search needs
 
-array-read-t16 : tie.Need-array-read-t16
-unfolding pairs
-array-read-t16 c = let h : c .to-usize .result < pair-count = rw (c .to-usize .ensures .0) (pair-there (c .before .args .row) (c .before .pre .0)) in search needs
+array-read-t14 : tie.Need-array-read-t14
+array-read-t14 c =
+    let s = c .before .before in
+    let e = pair-told (s .args .row) (s .pre .0) (c .before .placing-of .ensures) (c .pair-to-usize .ensures .0) in
+    let h : c .pair-to-usize .result < pair-count = rw e (pair-there (s .args .row) (s .pre .0)) in search needs
 
 returns : tie.Need-returns
-unfolding pairs minima maxima
-returns c = (ap (λ (p : ℕ). getD minima p 0) (c .to-usize .ensures .0) ∙ low-by-pair (c .before .args .row), ap (λ (p : ℕ). getD maxima p 0) (c .to-usize .ensures .0) ∙ high-by-pair (c .before .args .row) (c .before .pre .1))
+unfolding minima maxima
+returns c =
+    let s = c .before .before in
+    let e = pair-told (s .args .row) (s .pre .0) (c .before .placing-of .ensures) (c .pair-to-usize .ensures .0) in
+    (ap (λ (p : ℕ). getD minima p 0) e ∙ low-by-pair (s .args .row), ap (λ (p : ℕ). getD maxima p 0) e ∙ high-by-pair (s .args .row) (s .pre .1))
 
 pub limits-of-spec : {M : Type 1} → statement M
-limits-of-spec =
-    tie.close
-    (tie.spec
-    array-read-to-usize
-    to-usize-requires
-    mul-t8
-    array-read-t11
-    mul-t13
-    array-read-t16
-    returns)
+limits-of-spec = tie.close (tie.spec placing-of-requires pair-to-usize-requires mul-t6 array-read-t9 mul-t11 array-read-t14 returns)

@@ -1,24 +1,19 @@
--- `table::field::place_of`: the column is the field `place` of each row. Assumes nothing.
+-- `table::field::place_of`: out of the row's placing. Assumes nothing.
 use borrow.Author.Needs.{needs}
-use mathlib.Core.Path.{_∙_}
-use lib.ListN.{List·getD-map}
-use Rattle.table.specs.Row.{Row, no-row}
-use Rattle.table.specs.Rows.{rows}
+use Rattle.table.proofs.ColumnLaws.{place-told}
 use Rattle.table.proofs.field.place_of.Statement.{statement}
 use Rattle.table.proofs.field.place_of.Tie as tie
 
-mul-pair-to-usize : tie.Need-mul-pair-to-usize
-mul-pair-to-usize c = search needs
-
-array-read-pair-to-usize : tie.Need-array-read-pair-to-usize
-array-read-pair-to-usize c = search needs
+placing-of-requires : tie.Need-placing-of-requires
+placing-of-requires c κs = search needs
 
 pair-to-usize-requires : tie.Need-pair-to-usize-requires
 pair-to-usize-requires c κs = search needs
 
 returns : tie.Need-returns
-unfolding rows
-returns c = c .pair-to-usize .ensures .0 ∙ List·getD-map (λ (r : Row). r .place) rows (c .before .args .row) no-row
+returns c =
+    let s = c .before .before in
+    place-told (s .args .row) (s .pre) (c .before .placing-of .ensures) (c .pair-to-usize .ensures .0)
 
 pub place-of-spec : {M : Type 1} → statement M
-place-of-spec = tie.close (tie.spec mul-pair-to-usize array-read-pair-to-usize pair-to-usize-requires returns)
+place-of-spec = tie.close (tie.spec placing-of-requires pair-to-usize-requires returns)

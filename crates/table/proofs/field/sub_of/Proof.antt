@@ -1,17 +1,19 @@
--- `table::field::sub_of`: the column is the field `sub` of each row. Assumes nothing.
+-- `table::field::sub_of`: out of the row's key. Assumes nothing.
+use mathlib.Core.Path.{ap, _∙_}
+use Prim.Native.Nat.{ℕ, _%_}
 use borrow.Author.Needs.{needs}
-use lib.ListN.{List·getD-map}
-use Rattle.table.specs.Row.{Row, no-row}
-use Rattle.table.specs.Rows.{rows}
+use Rattle.table.proofs.Way.{sub-in}
 use Rattle.table.proofs.field.sub_of.Statement.{statement}
 use Rattle.table.proofs.field.sub_of.Tie as tie
 
-array-read-result : tie.Need-array-read-result
-array-read-result c = search needs
+key-of-requires : tie.Need-key-of-requires
+key-of-requires c κs = search needs
+
+cast-result : tie.Need-cast-result
+cast-result c = search needs
 
 returns : tie.Need-returns
-unfolding rows
-returns c = List·getD-map (λ (r : Row). r .sub) rows (c .args .row) no-row
+returns c = ap (λ (k : ℕ). k % 256) (c .key-of .ensures) ∙ sub-in (c .before .args .row) (c .before .pre)
 
 pub sub-of-spec : {M : Type 1} → statement M
-sub-of-spec = tie.close (tie.spec array-read-result returns)
+sub-of-spec = tie.close (tie.spec key-of-requires cast-result returns)

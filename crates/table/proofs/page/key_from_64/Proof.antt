@@ -1,0 +1,26 @@
+-- `table::page::key_from_64`: the row's number is its page's first and the rest. Assumes nothing.
+use Prim.Native.Nat.{_+_, _%_}
+use native.Mathlib.Omega.{arith}
+use borrow.Author.Needs.{needs}
+use Rattle.table.specs.Rows.{rows}
+use Rattle.table.specs.Rule.{key}
+use Rattle.table.specs.Columns.{column}
+use Rattle.table.proofs.ColumnLaws.{page-field}
+use Rattle.table.proofs.page.key_from_64.Statement.{statement}
+use Rattle.table.proofs.page.key_from_64.Tie as tie
+
+add-result : tie.Need-add-result
+add-result c = search needs
+
+mul-result : tie.Need-mul-result
+mul-result c = search needs
+
+array-read-result : tie.Need-array-read-result
+array-read-result c = search needs
+
+returns : tie.Need-returns
+unfolding rows column key
+returns c = page-field key (64 + c .args .row % 32) (c .args .row) (omega (arith, c .pre .from, c .pre .within))
+
+pub key-from-64-spec : {M : Type 1} → statement M
+key-from-64-spec = tie.close (tie.spec add-result mul-result array-read-result returns)
