@@ -1,5 +1,5 @@
 -- Loaded after stored, and stored after loaded, for any rows that keep the rule. Assumes nothing.
-use mathlib.Core.Bool.{true, or-true, _&&_}
+use mathlib.Core.Bool.{true, or-true, _&&_, and-eq-true-iff}
 use mathlib.Core.List.{List, [], _∷_, _++_, append-assoc}
 use mathlib.Core.Path.{_≡_, refl, sym, ap, _∙_}
 use Prim.Native.Nat.{ℕ, zero, suc, _+_, _-_, _≤_, _<_}
@@ -17,7 +17,6 @@ use Rattle.block.proofs.Kept.{Kept}
 use Rattle.block.proofs.Walking.{fits, Keeps, part-long, length-saved}
 use Rattle.block.proofs.Zeros.{zeros, zeros-are}
 use Rattle.block.specs.Block.{LAYOUT, row-width, part, entry-bits, entry-bytes, within, widths, saved, load-rows, values-good, rows-good, all-zero, block-of, good}
-use Rattle.table.proofs.Walks.{and-true}
 use Rattle.table.specs.Row.{Row, no-row}
 use Rattle.wire.proofs.LittleLaws.{Bytes, bytes-part}
 use Rattle.wire.proofs.SpliceLaws.{length-splice, part-same, part-apart, splice-own}
@@ -131,7 +130,7 @@ module _ (others : List ℕ) (hb : Bytes others) (hn : length others ≡ 1024) w
   rows-back [] k g front rest at e values = refl
   rows-back (r ∷ rs) k g front rest at e values =
       let own : List ℕ = entry-bits (r .kind) (r .len) (part others r) in
-      let gg = and-true (within r (number others (r .place) (r .len))) (values-good others rs) g in
+      let gg = and-eq-true-iff (within r (number others (r .place) (r .len))) (values-good others rs) .0 g in
       let lp : length (part others r) ≡ r .len = part-long others r (k .0) hn in
       let d : drop at (front ++ ((own ++ saved others rs) ++ rest)) ≡ own ++ (saved others rs ++ rest) =
       drop-at front ((own ++ saved others rs) ++ rest) at e ∙ append-assoc own (saved others rs) rest in
@@ -149,7 +148,7 @@ module _ (others : List ℕ) (hb : Bytes others) (hn : length others ≡ 1024) w
   rows-fine (r ∷ rs) k g front rest at e =
       let own : List ℕ = entry-bits (r .kind) (r .len) (part others r) in
       let tail : List ℕ = saved others rs ++ rest in
-      let gg = and-true (within r (number others (r .place) (r .len))) (values-good others rs) g in
+      let gg = and-eq-true-iff (within r (number others (r .place) (r .len))) (values-good others rs) .0 g in
       let lp : length (part others r) ≡ r .len = part-long others r (k .0) hn in
       let lo : length own ≡ row-width r = length-entry (r .kind) (r .len) (part others r) lp in
       let f : front ++ ((own ++ saved others rs) ++ rest) ≡ front ++ (own ++ tail) = ap (λ (l : List ℕ). front ++ l) (append-assoc own (saved others rs) rest) in
@@ -240,7 +239,7 @@ module _ (bs : List ℕ) (sm : Small bs) where
       let own : List ℕ = entry-bytes (r .kind) (r .len) (drop at bs) in
       let mid : List ℕ = splice values (r .place) own in
       let lm : length mid ≡ 1024 = length-one values r (drop at bs) (k .0) n in
-      let gg = and-true (within r (num (take (row-width r) (drop at bs)))) (rows-good bs (at + row-width r) rs) g in
+      let gg = and-eq-true-iff (within r (num (take (row-width r) (drop at bs)))) (rows-good bs (at + row-width r) rs) .0 g in
       let one : part (load-rows bs (at + row-width r) rs mid) r ≡ own =
       load-beside bs (at + row-width r) rs mid (r .place) (r .len) (k .1) (rising-clear rs (r .place) (r .len) (t .1)) lm
       ∙ part-same values (r .place) own (room-of values r (k .0) n) (r .len) (length-bytes (r .kind) (r .len) (drop at bs)) in
@@ -263,9 +262,9 @@ module _ (bs : List ℕ) (sm : Small bs) where
   unfolding block-of good
   store-loaded model rs values k t n e u g =
       let w : ℕ = widths rs in
-      let ga = and-true (eqb (field bs 0 4) LAYOUT) (eqb (field bs 4 4) model && (rows-good bs 8 rs && all-zero (drop (8 + w) bs))) g in
-      let gb = and-true (eqb (field bs 4 4) model) (rows-good bs 8 rs && all-zero (drop (8 + w) bs)) (ga .1) in
-      let gc = and-true (rows-good bs 8 rs) (all-zero (drop (8 + w) bs)) (gb .1) in
+      let ga = and-eq-true-iff (eqb (field bs 0 4) LAYOUT) (eqb (field bs 4 4) model && (rows-good bs 8 rs && all-zero (drop (8 + w) bs))) .0 g in
+      let gb = and-eq-true-iff (eqb (field bs 4 4) model) (rows-good bs 8 rs && all-zero (drop (8 + w) bs)) .0 (ga .1) in
+      let gc = and-eq-true-iff (rows-good bs 8 rs) (all-zero (drop (8 + w) bs)) .0 (gb .1) in
       let lay : msb 4 LAYOUT ≡ take 4 bs = ap (msb 4) (sym (eqb-true (field bs 0 4) LAYOUT (ga .0))) ∙ part-num 0 4 (omega arith) in
       let mdl : msb 4 model ≡ take 4 (drop 4 bs) = ap (msb 4) (sym (eqb-true (field bs 4 4) model (gb .0))) ∙ part-num 4 4 (omega arith) in
       let ln : length (drop (8 + w) bs) ≡ 4096 - (8 + w) = length-drop (8 + w) bs ∙ ap (λ (x : ℕ). x - (8 + w)) e in
@@ -281,6 +280,6 @@ module _ (bs : List ℕ) (sm : Small bs) where
   unfolding good
   loaded-good model rs values k t n e u g =
       let w : ℕ = widths rs in
-      let ga = and-true (eqb (field bs 0 4) LAYOUT) (eqb (field bs 4 4) model && (rows-good bs 8 rs && all-zero (drop (8 + w) bs))) g in
-      let gb = and-true (eqb (field bs 4 4) model) (rows-good bs 8 rs && all-zero (drop (8 + w) bs)) (ga .1) in
-      rows-values rs 0 8 values k t n (omega arith) (and-true (rows-good bs 8 rs) (all-zero (drop (8 + w) bs)) (gb .1) .0)
+      let ga = and-eq-true-iff (eqb (field bs 0 4) LAYOUT) (eqb (field bs 4 4) model && (rows-good bs 8 rs && all-zero (drop (8 + w) bs))) .0 g in
+      let gb = and-eq-true-iff (eqb (field bs 4 4) model) (rows-good bs 8 rs && all-zero (drop (8 + w) bs)) .0 (ga .1) in
+      rows-values rs 0 8 values k t n (omega arith) (and-eq-true-iff (rows-good bs 8 rs) (all-zero (drop (8 + w) bs)) .0 (gb .1) .0)

@@ -10,10 +10,10 @@ use lib.Dec.{T, ltb, leb→le}
 use lib.ListN.{length, getD}
 use Rattle.block.proofs.Kept.{Kept, kept}
 use Rattle.block.proofs.RoundTrips.{Rising, Clear, rising-below}
-use Rattle.block.proofs.Walking.{Keeps, one-or-not, nv-cons, nv-other, nv-keeps, widths-sum}
+use Rattle.block.proofs.Walking.{Keeps, nv-cons, nv-other, nv-keeps, widths-sum}
 use Rattle.block.specs.Block.{nv-rows, widths}
 use Rattle.table.proofs.Rules.{row-ok→rule, block-fits}
-use Rattle.table.proofs.Walks.{both-left, both-right}
+use Rattle.table.proofs.Walks.{both-left, both-right, same-or-not}
 use Rattle.table.specs.Row.{Row, no-row}
 use Rattle.table.specs.Rule.{key, held, row-ok, next-ok, table-ok}
 use Rattle.table.specs.Walk.{every, linked, chain}
@@ -33,7 +33,7 @@ linked-rising x (y ∷ ys) t o =
     let k : Kept y = kept y (row-ok→rule y (both-left (row-ok y) (every row-ok ys) o)) e in
     rw (nv-cons y ys e) (g, rw (k .held-all) at rest))
     (λ d. rw (nv-other y ys d) (rising-below (nv-rows ys) (x .place + held x) (y .place + held y) (omega arith) rest))
-    (one-or-not (y .nv))
+    (same-or-not (y .nv) 1)
 
 chain-rising : (rs : List Row) → T (chain next-ok rs) → T (every row-ok rs) → Rising 0 (nv-rows rs)
 unfolding chain every nv-rows Rising
@@ -45,7 +45,7 @@ chain-rising (r ∷ rs) t o =
     let k : Kept r = kept r (row-ok→rule r (both-left (row-ok r) (every row-ok rs) o)) e in
     rw (nv-cons r rs e) (zero-le, rw (k .held-all) at rest))
     (λ d. rw (nv-other r rs d) (rising-below (nv-rows rs) 0 (r .place + held r) zero-le rest))
-    (one-or-not (r .nv))
+    (same-or-not (r .nv) 1)
 
 -- ---- a row of the table among the NV rows, and a part beside them
 
@@ -63,14 +63,14 @@ nv-among (r ∷ rs) (suc k) h e =
     ⊎-elim
     (λ m. rw (nv-cons r rs m) (record { nth = suc (a .nth); there = suc-le-suc (a .there); is = a .is }))
     (λ d. rw (nv-other r rs d) a)
-    (one-or-not (r .nv))
+    (same-or-not (r .nv) 1)
 
 pub nv-clear : (rs : List Row) (q m : ℕ) → ((k : ℕ) → k < length rs → getD rs k no-row .nv ≡ 1 → apart (getD rs k no-row .place) (getD rs k no-row .len) q m ≡ true) → Clear (nv-rows rs) q m
 unfolding nv-rows Clear
 nv-clear [] q m f = tt
 nv-clear (r ∷ rs) q m f =
     let rest : Clear (nv-rows rs) q m = nv-clear rs q m (λ k h e. f (suc k) (suc-le-suc h) e) in
-    ⊎-elim (λ e. rw (nv-cons r rs e) (f 0 (suc-le-suc zero-le) e, rest)) (λ d. rw (nv-other r rs d) rest) (one-or-not (r .nv))
+    ⊎-elim (λ e. rw (nv-cons r rs e) (f 0 (suc-le-suc zero-le) e, rest)) (λ d. rw (nv-other r rs d) rest) (same-or-not (r .nv) 1)
 
 -- ---- a table that passes
 

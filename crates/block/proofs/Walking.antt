@@ -1,23 +1,23 @@
 -- The walk over the NV rows of any table: what one row more comes to, and what the rule says of them. Assumes nothing.
 use mathlib.Core.Bool.{Bool, true, false, _&&_, cond}
 use mathlib.Core.List.{List, [], _∷_, _++_, append-assoc, append-nil}
-use mathlib.Core.Logic.{⊎-elim, _⊎_, inl, inr}
+use mathlib.Core.Logic.{⊎-elim}
 use mathlib.Core.Path.{_≡_, refl, sym, ap, _∙_}
 use Prim.Native.Nat.{ℕ, zero, suc, _+_, _*_, _^_, _≤_, _<_}
 use native.Mathlib.Nat.{not-suc-le-zero, le-of-suc-le-suc, add-zero, add-assoc}
 use native.Mathlib.Numerals.{add-one}
 use native.Mathlib.Omega.{arith}
-use lib.Dec.{T, eqb}
+use lib.Dec.{T, eqb, eqb·suc-suc, eqb·zero-suc}
 use lib.ListN.{length, take, drop, getD, length-append, length-take, length-drop, take-append-drop}
 use lib.Seq.{drop-cons, take-suc}
-use borrow.Author.Tests.{eq-eqb, ne-eqb, eqb-true, eqb-false}
+use borrow.Author.Tests.{eq-eqb, ne-eqb}
 use Rattle.bits.specs.Bits.{field}
 use Rattle.block.proofs.Entries.{width-bool, width-bytes, length-entry, within-bool}
 use Rattle.block.proofs.Kept.{Kept, kept}
 use Rattle.block.specs.Asked.{starts, cut, held-front, saved-front, saved-numbers}
 use Rattle.block.specs.Block.{width, row-width, part, entry-bits, entry-bytes, within, nv-rows, widths, saved, load-rows, values-good, rows-good}
 use Rattle.table.proofs.Rules.{row-ok→rule}
-use Rattle.table.proofs.Walks.{both-left, both-right, lt-or-ge}
+use Rattle.table.proofs.Walks.{both-left, both-right, lt-or-ge, same-or-not}
 use Rattle.table.specs.Row.{Row, no-row, BOOL}
 use Rattle.table.specs.Rule.{pick, block-bits, block-sum, row-ok}
 use Rattle.table.specs.Walk.{every}
@@ -26,13 +26,6 @@ use Rattle.wire.specs.Little.{fromLittle, number}
 use Rattle.wire.specs.Splice.{splice}
 
 -- ---- the next row is an NV row or not
-
-pub one-or-not : (n : ℕ) → (n ≡ 1) ⊎ (n ≡ 1 → ⊥)
-one-or-not n = go (eqb n 1) refl
-  where
-    go : (b : Bool) → eqb n 1 ≡ b → (n ≡ 1) ⊎ (n ≡ 1 → ⊥)
-    go true e = inl (eqb-true n 1 e)
-    go false e = inr (eqb-false n 1 e)
 
 pub nv-cons : (r : Row) (rs : List Row) → r .nv ≡ 1 → nv-rows (r ∷ rs) ≡ r ∷ nv-rows rs
 unfolding nv-rows
@@ -57,7 +50,7 @@ nv-keeps (r ∷ rs) t =
     ⊎-elim
     (λ e. rw (nv-cons r rs e) (kept r (row-ok→rule r here) e, rest))
     (λ d. rw (nv-other r rs d) rest)
-    (one-or-not (r .nv))
+    (same-or-not (r .nv) 1)
 
 pub keeps-at : (rs : List Row) (i : ℕ) → Keeps rs → i < length rs → Kept (getD rs i no-row)
 unfolding Keeps
@@ -92,7 +85,7 @@ widths-sum (r ∷ rs) =
     ⊎-elim
     (λ e. rw (nv-cons r rs e) (omega (arith, bits-here r e, widths-sum rs)))
     (λ d. rw (nv-other r rs d) (omega (arith, bits-not r d, widths-sum rs)))
-    (one-or-not (r .nv))
+    (same-or-not (r .nv) 1)
 
 -- ---- lengths
 
@@ -165,16 +158,9 @@ length-starts at (r ∷ rs) = ap suc (length-starts (at + row-width r) rs)
 
 -- ---- how far the good ones go
 
-same-suc : (m n : ℕ) → eqb m n ≡ eqb (suc m) (suc n)
-same-suc m n = go (eqb m n) refl
-  where
-    go : (b : Bool) → eqb m n ≡ b → b ≡ eqb (suc m) (suc n)
-    go true e = sym (eq-eqb (suc m) (suc n) (ap suc (eqb-true m n e)))
-    go false e = sym (ne-eqb (suc m) (suc n) (λ q. eqb-false m n e (omega arith)))
-
 one-good : (b c : Bool) (m n : ℕ) → c ≡ eqb m n → (b && c) ≡ eqb (cond b (suc m) 0) (suc n)
-one-good true c m n e = e ∙ same-suc m n
-one-good false c m n e = sym (ne-eqb 0 (suc n) (λ q. omega arith))
+one-good true c m n e = e ∙ sym (eqb·suc-suc m n)
+one-good false c m n e = sym (eqb·zero-suc n)
 
 pub held-all-good : (values : List ℕ) (rs : List Row) → values-good values rs ≡ eqb (held-front values rs) (length rs)
 unfolding values-good held-front

@@ -1,5 +1,5 @@
 -- What the calls of `load` and `store` say, put together. Over plain variables. Assumes nothing.
-use mathlib.Core.Bool.{Bool, true, false, cond, _&&_}
+use mathlib.Core.Bool.{Bool, true, false, cond, _&&_, and-true, and-false}
 use mathlib.Core.List.{List, _∷_, _++_, append-assoc}
 use mathlib.Core.Path.{_≡_, refl, sym, ap, _∙_}
 use Prim.Native.Nat.{ℕ, zero, suc, _+_, _-_, _*_, _≤_, _<_}
@@ -13,7 +13,7 @@ use Rattle.wire.proofs.LittleLaws.{Bytes}
 use Rattle.bits.specs.Bits.{msb, bits, field, packed}
 use Rattle.block.proofs.Turns.{nv-keep, nv-length, nv-ends}
 use Rattle.block.proofs.Walking.{length-saved, held-all-good, saved-all-good, held-most, front-most}
-use Rattle.block.proofs.Zeros.{zero-field, and-last}
+use Rattle.block.proofs.Zeros.{zero-field}
 use Rattle.block.specs.Asked.{fresh-bytes, held-front, saved-front}
 use Rattle.block.specs.Block.{LAYOUT, BAG552, widths, saved, load-rows, values-good, rows-good, all-zero, block-of, good}
 use Rattle.block.specs.Saved.{nv, storable, stored, loadable, loaded}
@@ -38,10 +38,6 @@ taken-none b e = rw (← e)
 taken-all : (b : Bool) → true ≡ b → nv-count ≡ cond b nv-count 0
 taken-all b e = rw (← e)
 
-and-none : (a b : Bool) → b ≡ false → (a && b) ≡ false
-and-none true b e = e
-and-none false b e = refl
-
 module _ (block : List ℕ) {layout model : ℕ} (is-layout : layout ≡ field (bits block) 0 4) (is-model : model ≡ field (bits block) 4 4) where
   pub layout-bad : (layout ≡ LAYOUT → ⊥) → 0 ≡ cond (loadable block) nv-count 0
   unfolding loadable good
@@ -59,12 +55,12 @@ module _ (block : List ℕ) {layout model : ℕ} (is-layout : layout ≡ field (
         (ap (λ (k : ℕ). rows-good (bits block) 8 nv && all-zero (drop k (bits block))) nv-ends ∙ ap (λ (b : Bool). rows-good (bits block) 8 nv && b) (sym is-rest))
 
     pub rest-bad : rest ≡ false → 0 ≡ cond (loadable block) nv-count 0
-    rest-bad z = taken-none (loadable block) (sym (by-parts ∙ and-none (rows-good (bits block) 8 nv) rest z))
+    rest-bad z = taken-none (loadable block) (sym (by-parts ∙ rw z (and-false (rows-good (bits block) 8 nv))))
 
     module _ (z : rest ≡ true) {front : ℕ} (is-front : front ≡ saved-front (bits block) 8 nv) where
       by-front : loadable block ≡ eqb front nv-count
       by-front =
-          by-parts ∙ ap (λ (b : Bool). rows-good (bits block) 8 nv && b) z ∙ sym (and-last _)
+          by-parts ∙ ap (λ (b : Bool). rows-good (bits block) 8 nv && b) z ∙ and-true _
           ∙ saved-all-good (bits block) 8 nv
           ∙ ap (λ (k : ℕ). eqb k (length nv)) (sym is-front)
           ∙ ap (eqb front) nv-length

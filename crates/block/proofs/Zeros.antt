@@ -1,5 +1,5 @@
 -- The laws of bits that are all zero, by fields and by bytes. Assumes nothing.
-use mathlib.Core.Bool.{Bool, true, false, _&&_}
+use mathlib.Core.Bool.{Bool, true, _&&_, and-true, and-false, and-assoc, and-eq-true-iff}
 use mathlib.Core.List.{List, [], _∷_, _++_, append-assoc}
 use mathlib.Core.Path.{_≡_, refl, sym, ap, _∙_}
 use Prim.Native.Nat.{ℕ, zero, suc, _+_, _*_, _≤_, _<_}
@@ -14,20 +14,7 @@ use Rattle.bits.proofs.Numbers.{num-msb}
 use Rattle.wire.proofs.LittleLaws.{Bytes}
 use Rattle.bits.specs.Bits.{msb, bits, num-from, num, field}
 use Rattle.block.specs.Block.{all-zero}
-use Rattle.table.proofs.Walks.{and-true}
 use Rattle.wire.specs.Splice.{splice}
-
-and-assoc : (a b c : Bool) → ((a && b) && c) ≡ (a && (b && c))
-and-assoc true b c = refl
-and-assoc false b c = refl
-
-pub and-last : (a : Bool) → a ≡ (a && true)
-and-last true = refl
-and-last false = refl
-
-and-false : (a : Bool) → (a && false) ≡ false
-and-false true = refl
-and-false false = refl
 
 pub zero-append : (xs ys : List ℕ) → all-zero (xs ++ ys) ≡ (all-zero xs && all-zero ys)
 unfolding all-zero
@@ -43,7 +30,7 @@ double (suc a) b = ne-eqb (suc a * 2 + b) 0 (λ e. omega arith) ∙ sym (ap (λ 
 
 zero-from : (a : ℕ) (bs : List ℕ) → eqb (num-from a bs) 0 ≡ (eqb a 0 && all-zero bs)
 unfolding num-from all-zero
-zero-from a [] = and-last (eqb a 0)
+zero-from a [] = sym (and-true (eqb a 0))
 zero-from a (b ∷ bs) =
     zero-from (a * 2 + b) bs ∙ ap (λ (x : Bool). x && all-zero bs) (double a b) ∙ and-assoc (eqb a 0) (eqb b 0) (all-zero bs)
 
@@ -74,7 +61,7 @@ zero-drop : (n : ℕ) (bs : List ℕ) → all-zero bs ≡ true → all-zero (dro
 unfolding all-zero
 zero-drop zero bs e = e
 zero-drop (suc n) [] e = e
-zero-drop (suc n) (b ∷ bs) e = zero-drop n bs (and-true (eqb b 0) (all-zero bs) e .1)
+zero-drop (suc n) (b ∷ bs) e = zero-drop n bs (and-eq-true-iff (eqb b 0) (all-zero bs) .0 e .1)
 
 -- what is behind bits that were put from bit 8 on
 pub zero-behind : (l xs : List ℕ) → 8 ≤ length l → all-zero (drop 8 l) ≡ true → all-zero (drop (8 + length xs) (splice l 8 xs)) ≡ true
@@ -89,7 +76,7 @@ zero-behind l xs h e =
 
 -- a field of zeros says 0
 pub zero-said : (bs : List ℕ) (at w : ℕ) → all-zero (drop at bs) ≡ true → field bs at w ≡ 0
-zero-said bs at w e = eqb-true (field bs at w) 0 (and-true _ _ (sym (zero-field bs at w refl) ∙ e) .0)
+zero-said bs at w e = eqb-true (field bs at w) 0 (and-eq-true-iff _ _ .0 (sym (zero-field bs at w refl) ∙ e) .0)
 
 -- the greatest byte so far, with one more
 pub most-more : (m b : ℕ) (z : Bool) → m < b → (eqb b 0 && z) ≡ (eqb m 0 && (eqb b 0 && z))
@@ -113,5 +100,5 @@ pub zeros-are : (l : List ℕ) → all-zero l ≡ true → l ≡ replicate (leng
 unfolding all-zero
 zeros-are [] e = refl
 zeros-are (b ∷ bs) e =
-    let k = and-true (eqb b 0) (all-zero bs) e in
+    let k = and-eq-true-iff (eqb b 0) (all-zero bs) .0 e in
     rw (eqb-true b 0 (k .0)) (ap (λ (l : List ℕ). 0 ∷ l) (zeros-are bs (k .1)))

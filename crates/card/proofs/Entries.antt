@@ -5,12 +5,13 @@ use mathlib.Core.List.{List}
 use Prim.Native.Nat.{ℕ, _<_}
 use native.Mathlib.Omega.{arith}
 use lib.Dec.{T, eqb, eqb→eq}
+use lib.Ieee.Bits.{is-true}
 use lib.ListN.{length}
 use Rattle.table.specs.Row.{Row, no-row, REAL}
 use Rattle.table.specs.Rows.{rows, row-count, at-row}
 use Rattle.table.specs.Rule.{pick, held}
 use Rattle.table.specs.Walk.{both, every}
-use Rattle.table.proofs.Walks.{T-true, every-at, both-left, both-right}
+use Rattle.table.proofs.Walks.{every-at, both-left, both-right}
 use Rattle.table.proofs.Table.{rows-length}
 use Rattle.entry.specs.Entry.{entry-of, number-verdict}
 use Rattle.card.specs.Card.{level-verdict, with-card}
@@ -59,4 +60,4 @@ pub with-card-other : (values card : List ℕ) → length values ≡ 1024 → (k
 unfolding entry-of beside-ok pick
 with-card-other values card long k h e =
     with-card-beside values card long (at-row k .place) (held (at-row k))
-    (T-true _ (rw e at (every-at (beside-ok card) rows no-row (all-beside card) k (omega (arith, rows-length)))))
+    (is-true _ (rw e at (every-at (beside-ok card) rows no-row (all-beside card) k (omega (arith, rows-length)))))

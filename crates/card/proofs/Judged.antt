@@ -1,5 +1,5 @@
 -- What `plainly-within` says: patterns up to that of 1500 are within. Assumes nothing.
-use mathlib.Core.Bool.{true, _&&_}
+use mathlib.Core.Bool.{true, _&&_, and-eq-true-iff}
 use mathlib.Core.Path.{_≡_, refl}
 use mathlib.Core.List.{List}
 use Prim.Native.Nat.{ℕ, _≤_}
@@ -7,7 +7,6 @@ use native.Mathlib.Omega.{arith}
 use lib.Dec.{leb}
 use lib.ListN.{getD}
 use borrow.Author.Tests.{leb-true, lt-ltb}
-use Rattle.wire.proofs.Writes.{and-left, and-right}
 use Rattle.bits.specs.Bits.{bits, field}
 use Rattle.table.specs.Row.{REAL}
 use Rattle.table.specs.Rule.{pick, rank, real-rank}
@@ -29,9 +28,10 @@ within-all : (a b c d : ℕ) → leb a 0x44BB8000 && (leb b 0x44BB8000 && (leb c
     → first-bad (level-verdict a) (first-bad (level-verdict b) (first-bad (level-verdict c) (level-verdict d))) ≡ Within
 unfolding first-bad
 within-all a b c d h =
-    let k = and-right (leb a 0x44BB8000) _ h in
-    let l = and-right (leb b 0x44BB8000) _ k in
-    rw (level-within a (leb-true a _ (and-left (leb a 0x44BB8000) _ h)), level-within b (leb-true b _ (and-left (leb b 0x44BB8000) _ k)), level-within c (leb-true c _ (and-left (leb c 0x44BB8000) _ l)), level-within d (leb-true d _ (and-right (leb c 0x44BB8000) _ l)))
+    let k = and-eq-true-iff (leb a 0x44BB8000) _ .0 h in
+    let l = and-eq-true-iff (leb b 0x44BB8000) _ .0 (k .1) in
+    let m = and-eq-true-iff (leb c 0x44BB8000) _ .0 (l .1) in
+    rw (level-within a (leb-true a _ (k .0)), level-within b (leb-true b _ (l .0)), level-within c (leb-true c _ (m .0)), level-within d (leb-true d _ (m .1)))
 
 plain-point : (fields : List ℕ) → plainly-within fields ≡ true → point-verdict fields ≡ Within
 unfolding plainly-within point-verdict
@@ -49,6 +49,7 @@ pub plain-card : (card one two : List ℕ) (n : ℕ) (r : Verdict) → one ≡ f
     → plainly-within one && plainly-within two ≡ true → r ≡ layout-verdict n → r ≡ card-verdict card
 unfolding card-verdict
 plain-card card one two n r e1 e2 en h er =
-    let p : point-verdict (fields-of card point-1) ≡ Within = rw e1 at (plain-point one (and-left (plainly-within one) _ h)) in
-    let q : point-verdict (fields-of card point-2) ≡ Within = rw e2 at (plain-point two (and-right (plainly-within one) _ h)) in
+    let both = and-eq-true-iff (plainly-within one) _ .0 h in
+    let p : point-verdict (fields-of card point-1) ≡ Within = rw e1 at (plain-point one (both .0)) in
+    let q : point-verdict (fields-of card point-2) ≡ Within = rw e2 at (plain-point two (both .1)) in
     rw (p, q, er, en) (last-within _)

@@ -1,5 +1,5 @@
 -- What a card's write leaves: the values' length, its fields in the twelve entries, every other byte. Assumes nothing.
-use mathlib.Core.Bool.{Bool, true, cond, _&&_}
+use mathlib.Core.Bool.{Bool, true, cond, _&&_, and-eq-true-iff}
 use mathlib.Core.Path.{_≡_, refl, _∙_}
 use mathlib.Core.List.{List, [], _∷_}
 use Prim.Native.Nat.{ℕ, zero, suc, _+_, _<_}
@@ -11,7 +11,7 @@ use Rattle.wire.specs.Splice.{apart}
 use Rattle.wire.specs.Little.{little, fromLittle, number, put-number}
 use Rattle.wire.proofs.SpliceLaws.{part-apart}
 use Rattle.wire.proofs.LittleLaws.{length-little, from-little, put-length}
-use Rattle.wire.proofs.Writes.{Write, write, written, within, tidy, shown, and-left, and-right, written-length, number-shown}
+use Rattle.wire.proofs.Writes.{Write, write, written, within, tidy, shown, written-length, number-shown}
 use Rattle.bits.specs.Fields.{decode}
 use Rattle.table.specs.Places.{settings-1, settings-2, high-enable, low-enable, high-level, low-level, high-hysteresis, low-hysteresis}
 use Rattle.card.specs.Card.{point-1, point-2, enable, point-fields, fields-of, with-point, with-card}
@@ -27,12 +27,12 @@ clear (w ∷ ws) q m = apart (w .place) (w .width) q m && clear ws q m
 written-beside : (ws : List Write) (l : List ℕ) (n q m : ℕ) → length l ≡ n → within n ws ≡ true → clear ws q m ≡ true → take m (drop q (written l ws)) ≡ take m (drop q l)
 written-beside [] l n q m h k t = refl
 written-beside (w ∷ ws) l n q m h k t =
-    let room : leb (w .place + w .width) n ≡ true = and-left _ (within n ws) k in
+    let room = and-eq-true-iff (leb (w .place + w .width) n) _ .0 k in
     let x : List ℕ = little (w .width) (w .holds) in
-    let far : apart (w .place) (w .width) q m ≡ true = and-left _ (clear ws q m) t in
-    let fit : leb (w .place) (length l) ≡ true = le-leb (w .place) (length l) (omega (arith, leb-true (w .place + w .width) n room)) in
-    written-beside ws (put-number l (w .place) (w .width) (w .holds)) n q m (put-length l (w .place) (w .width) (w .holds) (rw h room) ∙ h) (and-right (leb (w .place + w .width) n) _ k) (and-right (apart (w .place) (w .width) q m) _ t)
-    ∙ part-apart l (w .place) x fit q m (rw length-little far)
+    let far = and-eq-true-iff (apart (w .place) (w .width) q m) _ .0 t in
+    let fit : leb (w .place) (length l) ≡ true = le-leb (w .place) (length l) (omega (arith, leb-true (w .place + w .width) n (room .0))) in
+    written-beside ws (put-number l (w .place) (w .width) (w .holds)) n q m (put-length l (w .place) (w .width) (w .holds) (rw h (room .0)) ∙ h) (room .1) (far .1)
+    ∙ part-apart l (w .place) x fit q m (rw length-little (far .0))
 
 -- ---- a card as twelve writes
 

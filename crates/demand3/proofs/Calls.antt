@@ -3,7 +3,7 @@ use Prim.Native.Nat.{ℕ, zero, suc, _+_, _≤_, _<_}
 use native.Mathlib.Omega.{arith}
 use mathlib.Core.Path.{_≡_, refl, sym, ap, subst, _∙_}
 use mathlib.Core.Logic.{_⊎_, inl, inr}
-use mathlib.Core.Bool.{Bool, true, false, cond}
+use mathlib.Core.Bool.{Bool, true, false, cond, and-eq-true-iff}
 use mathlib.Core.List.{List, [], _∷_, map}
 use mathlib.Core.Option.{Option, none, some, Option·map}
 use lib.Dec.{eqb}
@@ -11,7 +11,7 @@ use lib.ListN.{length}
 use borrow.Author.Tests.{eqb-true, eqb-false, eq-eqb, le-leb}
 use Rattle.wire.specs.Splice.{splice}
 use Rattle.wire.proofs.SpliceLaws.{length-splice, part-length, part-same}
-use Rattle.table.proofs.Walks.{lt-or-ge, and-true}
+use Rattle.table.proofs.Walks.{lt-or-ge}
 use Rattle.trip.specs.declared.Trips.{Trips}
 use Rattle.trip.specs.Trip.{all-off}
 use Rattle.sample.specs.Sample.{trips-after, values-after}
@@ -367,8 +367,8 @@ module _ (v b s : List ℕ) where
   sized-lengths : sized v b s ≡ true → (length b ≡ 512) × (length s ≡ 256)
   unfolding sized
   sized-lengths e =
-      let p = and-true (eqb (length v) 1024) _ e in
-      let q = and-true (eqb (length b) 512) _ (p .1) in
+      let p = and-eq-true-iff (eqb (length v) 1024) _ .0 e in
+      let q = and-eq-true-iff (eqb (length b) 512) _ .0 (p .1) in
       (eqb-true _ _ (q .0), eqb-true _ _ (q .1))
 
   -- the number 0 says that the arrays were long enough

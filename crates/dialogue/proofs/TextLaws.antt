@@ -1,5 +1,5 @@
 -- Digits, pairs of digits and printed bytes: one turn of each loop, and what digits come to. Assumes nothing.
-use mathlib.Core.Bool.{Bool, true, false, _&&_}
+use mathlib.Core.Bool.{Bool, true, false, _&&_, and-eq-true-iff}
 use mathlib.Core.List.{List, [], _∷_, _++_}
 use mathlib.Core.Path.{_≡_, refl, sym, ap, _∙_}
 use Prim.Native.Nat.{ℕ, zero, suc, _+_, _-_, _*_, _/_, _%_, _≤_, _<_}
@@ -10,17 +10,16 @@ use lib.ListN.{length, take, drop, getD, set, length-set, length-drop, length-ap
 use lib.Seq.{drop-cons, take-all, take-at}
 use borrow.Author.Tests.{leb-true, eqb-true, eq-eqb, ne-eqb}
 use Rattle.wire.specs.Splice.{splice}
-use Rattle.wire.proofs.Writes.{and-left, and-right}
 use Rattle.wire.proofs.SpliceLaws.{splice-cons, splice-none, splice-then, length-splice}
 use Rattle.dialogue.specs.Text.{no-message, a-message, pick-spoken, read, spoken, between, is-digit, digit-value, all-digits, pairs, is-message, without-return, capital, hex-text, message-text, answer-text, none-text, unknown-text}
 
 pub between-low : (low b high : ℕ) → between low b high ≡ true → low ≤ b
 unfolding between
-between-low low b high h = leb-true low b (and-left (leb low b) (leb b high) h)
+between-low low b high h = leb-true low b (and-eq-true-iff (leb low b) (leb b high) .0 h .0)
 
 pub between-high : (low b high : ℕ) → between low b high ≡ true → b ≤ high
 unfolding between
-between-high low b high h = leb-true b high (and-right (leb low b) (leb b high) h)
+between-high low b high h = leb-true b high (and-eq-true-iff (leb low b) (leb b high) .0 h .1)
 
 -- what the digit in each of the three ranges is worth
 pub value-figure : (b : ℕ) → between 48 b 57 ≡ true → (b - 48 ≡ digit-value b) × (b - 48 < 16)
@@ -118,15 +117,17 @@ answer-put room put bytes n h k e =
 
 pub message-long : (l : List ℕ) → is-message l ≡ true → length l ≡ 18
 unfolding is-message
-message-long l h = eqb-true (length l) 18 (and-left (eqb (length l) 18) _ h)
+message-long l h = eqb-true (length l) 18 (and-eq-true-iff (eqb (length l) 18) _ .0 h .0)
+
+message-first : (l : List ℕ) → is-message l ≡ true → between 48 (getD l 0 0) 49 ≡ true
+unfolding is-message
+message-first l h = and-eq-true-iff (between 48 (getD l 0 0) 49) _ .0 (and-eq-true-iff (eqb (length l) 18) _ .0 h .1) .0
 
 pub message-line : (l : List ℕ) → is-message l ≡ true → 48 ≤ getD l 0 0
-unfolding is-message
-message-line l h = between-low 48 (getD l 0 0) 49 (and-left (between 48 (getD l 0 0) 49) _ (and-right (eqb (length l) 18) _ h))
+message-line l h = between-low 48 (getD l 0 0) 49 (message-first l h)
 
 pub message-figure : (l : List ℕ) → is-message l ≡ true → getD l 0 0 ≤ 49
-unfolding is-message
-message-figure l h = between-high 48 (getD l 0 0) 49 (and-left (between 48 (getD l 0 0) 49) _ (and-right (eqb (length l) 18) _ h))
+message-figure l h = between-high 48 (getD l 0 0) 49 (message-first l h)
 
 pub return-empty : (l : List ℕ) → length l ≡ 0 → without-return l ≡ l
 unfolding without-return

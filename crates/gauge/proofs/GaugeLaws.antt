@@ -5,6 +5,7 @@ use mathlib.Core.List.{List}
 use Prim.Native.Nat.{ℕ, _+_, _<_, _≤_}
 use native.Mathlib.Omega.{arith}
 use lib.Dec.{T, leb, eqb}
+use lib.Ieee.Bits.{is-true}
 use lib.ListN.{length, replicate}
 use borrow.Author.Tests.{le-leb, eq-eqb, eqb-true}
 use Rattle.wire.specs.Splice.{splice, apart}
@@ -17,7 +18,7 @@ use Rattle.table.specs.Rows.{rows, row-count, at-row}
 use Rattle.table.specs.Rule.{pick, held}
 use Rattle.table.specs.Walk.{every}
 use Rattle.table.specs.Find.{find-row}
-use Rattle.table.proofs.Walks.{T-true, every-at}
+use Rattle.table.proofs.Walks.{every-at}
 use Rattle.table.proofs.Table.{rows-length, lock-found}
 use Rattle.table.specs.Places.{latched-status, summary-byte}
 use Rattle.entry.specs.Limits.{verdict-code}
@@ -136,7 +137,7 @@ module _ (c : Command) (at n : ℕ) (pass : T (every (spared c at n) rows)) wher
   unfolding entry-of spared pick
   spare values bytes room size j h e =
       part-apart values at bytes room (at-row j .place) (held (at-row j))
-      (rw size (T-true _ (rw e at (every-at (spared c at n) rows no-row pass j (omega (arith, rows-length))))))
+      (rw size (is-true _ (rw e at (every-at (spared c at n) rows no-row pass j (omega (arith, rows-length))))))
 
 status-spared : (c : Command) → T (every (spared c (status-of c) 1) rows)
 unfolding rows every spared named pick held status-of

@@ -3,7 +3,7 @@ use Prim.Native.Nat.{ℕ, suc, _+_, _*_, _≤_, _<_}
 use native.Mathlib.Omega.{arith}
 use mathlib.Core.Path.{_≡_, refl, sym, ap, ap₂, _∙_, subst}
 use mathlib.Core.Logic.{_≢_}
-use mathlib.Core.Bool.{Bool, true, false, cond, not, Bool·beq}
+use mathlib.Core.Bool.{Bool, true, false, cond, not, Bool·beq, false≢true}
 use mathlib.Core.List.{List, [], _∷_, _++_}
 use mathlib.Core.Option.{Option, none, some}
 use lib.Dec.{T, ltb, leb, leb→le, nleb→lt}
@@ -76,7 +76,7 @@ module _ (P : Gauge) where
   Dropped g s = isAbort (s .answer) ≡ true → s ≡ over P g (s .answer)
 
   not-both : {A : Type 0} → _≡_ {A = Bool} false true → A
-  not-both e = let z : _≡_ {A = ℕ} 0 1 = cc in absurd (omega arith)
+  not-both e = absurd (false≢true e)
 
   two-left : {g : P .Store} (d : Bool) (s s′ : Served P) → Dropped g s → Dropped g s′ → Dropped g (cond d s s′)
   two-left true s s′ p q = p

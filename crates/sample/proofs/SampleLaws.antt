@@ -1,5 +1,5 @@
 -- What stands where after a sample, one law for each fact. Assumes nothing.
-use mathlib.Core.Bool.{Bool, true, false, cond, not, _&&_}
+use mathlib.Core.Bool.{Bool, true, false, cond, not, _&&_, and-eq-true-iff}
 use mathlib.Core.Path.{_≡_, refl, sym, ap, ap₂, _∙_, subst}
 use mathlib.Core.List.{List, [], _∷_}
 use Prim.Native.Nat.{ℕ, _+_, _*_, _/_, _%_, _^_, _<_}
@@ -12,7 +12,7 @@ use lib.Ieee.Bits.{ofBits-toBits, toBits-lt}
 use Rattle.wire.specs.Little.{little, fromLittle, number}
 use Rattle.wire.specs.Real.{real}
 use Rattle.wire.proofs.LittleLaws.{Bytes, from-little, number-lt}
-use Rattle.wire.proofs.Writes.{Write, write, written, within, tidy, shown, and-left, and-right, number-shown}
+use Rattle.wire.proofs.Writes.{Write, write, written, within, tidy, shown, number-shown}
 use Rattle.trip.specs.declared.Trips.{Trips}
 use Rattle.trip.specs.Trip.{usable-pressure}
 use Rattle.table.specs.Places.{input-value, trip-input-1, trip-input-2, reading-valid, status-1, status-2, trip-outputs, settings-1, settings-2, sensor-error, active-word, latched-word, summary-byte, power-on-time}
@@ -96,15 +96,14 @@ module _ (l : List ℕ) (was : Trips) (p : Float) (valid : ℕ) where
   module _ (h : length l ≡ 1024) (x : List ℕ) (ws : List Write) (by : By x ws) where
     case : (u : Bool) → usable-pressure p valid ≡ u → (q m : ℕ) → within 1024 (steps u ws) && tidy (steps u ws) q m ≡ true → number x q m ≡ shown (steps u ws) q m (number l q m)
     case u e q m k =
-        rw (by u e)
-        (number-shown (steps u ws) l 1024 q m h (and-left (within 1024 (steps u ws)) (tidy (steps u ws) q m) k) (and-right (within 1024 (steps u ws)) (tidy (steps u ws) q m) k))
+        let both = and-eq-true-iff (within 1024 (steps u ws)) (tidy (steps u ws) q m) .0 k in
+        rw (by u e) (number-shown (steps u ws) l 1024 q m h (both .0) (both .1))
 
     -- a number that a reading does not write is the same in both cases
     each : (q m v : ℕ) → fine ws q m ≡ true → shown (steps true ws) q m (number l q m) ≡ v → shown (steps false ws) q m (number l q m) ≡ v → number x q m ≡ v
     each q m v k e f =
-        let a : Bool = within 1024 (steps true ws) && tidy (steps true ws) q m in
-        let b : Bool = within 1024 (steps false ws) && tidy (steps false ws) q m in
-        by-cases (usable-pressure p valid) (λ y. case true y q m (and-left a b k) ∙ e) (λ n. case false n q m (and-right a b k) ∙ f)
+        let both = and-eq-true-iff (within 1024 (steps true ws) && tidy (steps true ws) q m) _ .0 k in
+        by-cases (usable-pressure p valid) (λ y. case true y q m (both .0) ∙ e) (λ n. case false n q m (both .1) ∙ f)
 
 module _ (l : List ℕ) (was : Trips) (p : Float) (valid faults seconds : ℕ) (h : length l ≡ 1024) where
   -- the values after reading and trips, and those after the faults too

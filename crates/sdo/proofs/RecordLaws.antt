@@ -3,7 +3,7 @@ use Prim.Native.Nat.{ℕ, _+_, _≤_, _<_}
 use native.Mathlib.Omega.{arith}
 use mathlib.Core.Path.{_≡_, refl, sym, ap₂}
 use mathlib.Core.Logic.{_⊎_, inl, inr}
-use mathlib.Core.Bool.{Bool, true, false, cond}
+use mathlib.Core.Bool.{Bool, true, false, cond, and-eq-true-iff}
 use mathlib.Core.List.{List, _++_}
 use lib.Dec.{eqb, ltb}
 use lib.ListN.{length, take, drop, length-append, length-drop, length-take}
@@ -13,7 +13,6 @@ use Rattle.order.specs.Talk.{Request, openRead, nextPart, expedited, openWrite,
 use Rattle.table.specs.Rows.{row-count, at-row}
 use Rattle.table.specs.Find.{find-row}
 use Rattle.table.specs.declared.Found.the-variants.{At}
-use Rattle.table.proofs.Walks.{and-true}
 use Rattle.table.proofs.Table.{row-rule, find-at, row-found}
 use Rattle.sdo.specs.declared.Key.{Key}
 use Rattle.sdo.specs.declared.Direction.{Direction}
@@ -36,9 +35,9 @@ at-most-64 f = rw (f .length-is) (row-rule _ (f .there) .most)
 pub counts-fits : (t : Transfer) → counts t ≡ true → Fits (t .direction) (t .row) (keyAt (t .row)) (t .len) (t .place)
 unfolding counts
 counts-fits t e =
-    let a = and-true (ltb (t .row) row-count) _ e in
-    let b = and-true (allows (t .direction) (at-row (t .row) .access)) _ (a .1) in
-    let c = and-true (eqb (t .len) (at-row (t .row) .len)) _ (b .1) in
+    let a = and-eq-true-iff (ltb (t .row) row-count) _ .0 e in
+    let b = and-eq-true-iff (allows (t .direction) (at-row (t .row) .access)) _ .0 (a .1) in
+    let c = and-eq-true-iff (eqb (t .len) (at-row (t .row) .len)) _ .0 (b .1) in
     record { there = ltb-true _ _ (a .0); key-is = refl; allowed = b .0; length-is = eqb-true _ _ (c .0); place-in = leb-true _ _ (c .1) }
 
 pub fits-counts : (t : Transfer) (k : Key) → Fits (t .direction) (t .row) k (t .len) (t .place) → counts t ≡ true

@@ -2,14 +2,13 @@
 use Prim.Native.Nat.{ℕ, zero, suc, _+_, _-_, _/_, _%_, _≤_, _<_}
 use native.Mathlib.Omega.{arith}
 use mathlib.Core.Path.{_≡_, refl, ap, subst}
-use mathlib.Core.Bool.{Bool, true, false, Bool·beq, _&&_}
+use mathlib.Core.Bool.{Bool, true, false, Bool·beq, _&&_, and-eq-true-iff}
 use mathlib.Core.List.{List, [], _∷_}
 use lib.Dec.{leb}
 use lib.ListN.{length, take, drop, getD, replicate, length-take}
 use lib.Seq.{take-take}
 use borrow.Author.Tests.{lt-ltb, le-ltb, lt-leb, le-leb, leb-true}
 use Rattle.wire.proofs.SpliceLaws.{part-length, part-same}
-use Rattle.wire.proofs.Writes.{and-left, and-right}
 use Rattle.table.specs.Rows.{at-row}
 use Rattle.table.specs.Rule.{pick}
 use Rattle.order.specs.Talk.{announced, unsaid, own, opened, partGiven, writeOpened, partTaken, wrongToggle, noTransfer}
@@ -26,7 +25,7 @@ use Rattle.sdo.specs.Records.{keyAt, counts}
 use Rattle.sdo.specs.Replies.{ending, going, committing, refusal, is-reading, turned, partBytes, givenReply, nextPartReply, is-writing, grown, takenReply, sendPartReply, openedRecord, filled, openReadReply, openWriteBy, openWriteReply, valueReply, expeditedReply}
 
 pub short-in : (n : ℕ) → short n ≡ true → (1 ≤ n) × (n ≤ 4)
-short-in n e = (leb-true 1 n (and-left (leb 1 n) (leb n 4) e), leb-true n 4 (and-right (leb 1 n) (leb n 4) e))
+short-in n e = let both = and-eq-true-iff (leb 1 n) (leb n 4) .0 e in (leb-true 1 n (both .0), leb-true n 4 (both .1))
 
 -- ---- parts of a read
 

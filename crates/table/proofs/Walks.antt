@@ -1,5 +1,5 @@
 -- What a test over a whole list says at each place. It holds for any list. Assumes nothing.
-use mathlib.Core.Bool.{Bool, true, false, _&&_}
+use mathlib.Core.Bool.{Bool, true, false, _&&_, and-eq-true-iff}
 use mathlib.Core.List.{List, [], _∷_}
 use Prim.Native.Nat.{ℕ, zero, suc, _<_, _≤_}
 use native.Mathlib.Nat.{le-of-suc-le-suc, not-suc-le-zero}
@@ -8,7 +8,6 @@ use mathlib.Core.Path.{_≡_, refl}
 use mathlib.Core.Logic.{_⊎_, inl, inr}
 use borrow.Author.Tests.{ltb-true, ltb-false, eqb-true, eqb-false}
 use lib.ListN.{length, getD}
-use Rattle.wire.proofs.Writes.{and-left, and-right}
 use Rattle.table.specs.Walk.{both, all, every, linked, chain}
 
 pub lt-or-ge : (m n : ℕ) → (m < n) ⊎ (n ≤ m)
@@ -24,10 +23,6 @@ same-or-not a b = go (eqb a b) refl
     go : (d : Bool) → eqb a b ≡ d → (a ≡ b) ⊎ (a ≡ b → ⊥)
     go true e = inl (eqb-true a b e)
     go false e = inr (eqb-false a b e)
-
-pub T-true : (b : Bool) → T b → b ≡ true
-T-true true t = refl
-T-true false t = absurd t
 
 pub both-left : (a b : Bool) → T (both a b) → T a
 both-left true b t = tt
@@ -75,4 +70,4 @@ module _ {A : Type 0} where
     chain-far (x ∷ xs) t (suc j) (suc k) h l = chain-far xs (tail-chain x xs t) j k (le-of-suc-le-suc h) (le-of-suc-le-suc l)
 
 pub and-true : (a b : Bool) → (a && b) ≡ true → (a ≡ true) × (b ≡ true)
-and-true a b h = (and-left a b h, and-right a b h)
+and-true a b = and-eq-true-iff a b .0

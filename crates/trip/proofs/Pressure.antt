@@ -1,6 +1,6 @@
 -- The test of a pressure, as code has it: the flag, not negative, and no difference to itself. Assumes nothing.
 use mathlib.Core.Path.{_≡_, refl, sym, ap, _∙_}
-use mathlib.Core.Bool.{Bool, true, false, cond, not, _&&_, Bool·beq, and-false, or-true}
+use mathlib.Core.Bool.{Bool, true, false, cond, not, _&&_, Bool·beq, and-false, or-true, and-eq-true-iff}
 use Prim.Native.Nat.{ℕ, _-_, _*_, _<_}
 use native.Mathlib.Nat.{zero-mul, mul-pos, sub-self, eq-of-mul-eq-mul-right}
 use native.Mathlib.Omega.{arith}
@@ -60,11 +60,6 @@ module _ (p : Float) (valid : ℕ) where
   unfolding usable-pressure
   opened h = h
 
-last : (a b d : Bool) → a && (b && d) ≡ true → d ≡ true
-last true true d h = h
-last true false d h = cc
-last false b d h = cc
-
 finite-number : (p : Float) → finite p ≡ true → isNan p ≡ false
 unfolding finite isNan
 finite-number nan h = cc
@@ -73,4 +68,4 @@ finite-number (fin s m e) h = refl
 
 -- a usable pressure is no NaN
 pub usable-number : (p : Float) (valid : ℕ) → usable-pressure p valid ≡ true → isNan p ≡ false
-usable-number p valid h = finite-number p (last (not (eqb valid 0)) (not (lt p (ofBits binary32 0))) (finite p) (opened p valid h))
+usable-number p valid h = finite-number p (and-eq-true-iff (not (lt p (ofBits binary32 0))) _ .0 (and-eq-true-iff (not (eqb valid 0)) _ .0 (opened p valid h) .1) .1)

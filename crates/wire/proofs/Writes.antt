@@ -1,5 +1,5 @@
 -- Several numbers written one after the other: what is read afterwards, by tests that numerals settle. Assumes nothing.
-use mathlib.Core.Bool.{Bool, true, false, cond, _&&_, _||_}
+use mathlib.Core.Bool.{Bool, true, false, cond, _&&_, _||_, and-eq-true-iff}
 use mathlib.Core.Path.{_≡_, refl, ap, _∙_}
 use mathlib.Core.List.{List, [], _∷_}
 use Prim.Native.Nat.{ℕ, _+_}
@@ -42,25 +42,18 @@ abbrev pub shown : List Write → ℕ → ℕ → ℕ → ℕ
 shown [] q m old = old
 shown (w ∷ ws) q m old = shown ws q m (cond (here w q m) (fromLittle (little m (w .holds))) old)
 
-pub and-left : (a b : Bool) → a && b ≡ true → a ≡ true
-and-left true b h = refl
-and-left false b h = h
-
-pub and-right : (a b : Bool) → a && b ≡ true → b ≡ true
-and-right true b h = h
-and-right false b h = cc
-
 pub written-length : (ws : List Write) (l : List ℕ) (n : ℕ) → length l ≡ n → within n ws ≡ true → length (written l ws) ≡ n
 written-length [] l n h k = h
 written-length (w ∷ ws) l n h k =
-    let room : leb (w .place + w .width) n ≡ true = and-left _ (within n ws) k in
-    written-length ws _ n (put-length l (w .place) (w .width) (w .holds) (rw h room) ∙ h) (and-right (leb (w .place + w .width) n) _ k)
+    let room = and-eq-true-iff (leb (w .place + w .width) n) _ .0 k in
+    written-length ws _ n (put-length l (w .place) (w .width) (w .holds) (rw h (room .0)) ∙ h) (room .1)
 
 same : (l : List ℕ) (w : Write) (q m : ℕ) → leb (w .place) (length l) ≡ true → here w q m ≡ true → number (put-number l (w .place) (w .width) (w .holds)) q m ≡ fromLittle (little m (w .holds))
 unfolding number
 same l w q m room e =
-    let p : w .place ≡ q = eqb-true _ _ (and-left _ (eqb (w .width) m) e) in
-    let n : w .width ≡ m = eqb-true _ _ (and-right (eqb (w .place) q) _ e) in
+    let both = and-eq-true-iff (eqb (w .place) q) _ .0 e in
+    let p : w .place ≡ q = eqb-true _ _ (both .0) in
+    let n : w .width ≡ m = eqb-true _ _ (both .1) in
     rw (← p, ← n, part-same l (w .place) (little (w .width) (w .holds)) room (w .width) (length-little (w .width) (w .holds)))
 
 -- one write
@@ -74,8 +67,8 @@ start at k n h = le-leb at n (omega (arith, leb-true (at + k) n h))
 pub number-shown : (ws : List Write) (l : List ℕ) (n q m : ℕ) → length l ≡ n → within n ws ≡ true → tidy ws q m ≡ true → number (written l ws) q m ≡ shown ws q m (number l q m)
 number-shown [] l n q m h k t = refl
 number-shown (w ∷ ws) l n q m h k t =
-    let room : leb (w .place + w .width) n ≡ true = and-left _ (within n ws) k in
+    let room = and-eq-true-iff (leb (w .place + w .width) n) _ .0 k in
+    let clear = and-eq-true-iff (here w q m || apart (w .place) (w .width) q m) _ .0 t in
     let l′ : List ℕ = put-number l (w .place) (w .width) (w .holds) in
-    let h′ : length l′ ≡ n = put-length l (w .place) (w .width) (w .holds) (rw h room) ∙ h in
-    number-shown ws l′ n q m h′ (and-right (leb (w .place + w .width) n) _ k) (and-right (here w q m || apart (w .place) (w .width) q m) _ t)
-    ∙ ap (shown ws q m) (one (here w q m) l w q m (rw h (start (w .place) (w .width) n room)) refl (and-left _ (tidy ws q m) t))
+    let h′ : length l′ ≡ n = put-length l (w .place) (w .width) (w .holds) (rw h (room .0)) ∙ h in
+    number-shown ws l′ n q m h′ (room .1) (clear .1) ∙ ap (shown ws q m) (one (here w q m) l w q m (rw h (start (w .place) (w .width) n (room .0))) refl (clear .0))

@@ -1,5 +1,5 @@
 -- `bytes_zero` meets its contract. Invariant: the greatest so far and the bytes that are left decide as all do. Assumes nothing.
-use mathlib.Core.Bool.{Bool, _&&_}
+use mathlib.Core.Bool.{Bool, _&&_, and-true}
 use mathlib.Core.Logic.{⊎-elim}
 use mathlib.Core.Path.{_≡_, _∙_, sym, ap, refl}
 use Prim.Native.Nat.{_+_, _-_, _*_, _≤_}
@@ -8,7 +8,7 @@ use lib.Dec.{eqb}
 use lib.ListN.{drop, getD}
 use Rattle.bits.proofs.Numbers.{length-bits}
 use Rattle.bits.specs.Bits.{bits}
-use Rattle.block.proofs.Zeros.{and-last, zero-byte, zero-end, most-more, most-same}
+use Rattle.block.proofs.Zeros.{zero-byte, zero-end, most-more, most-same}
 use Rattle.block.proofs.bytes_zero.Statement.{statement}
 use Rattle.block.specs.Block.{all-zero}
 use Rattle.block.proofs.bytes_zero.Tie as tie
@@ -49,7 +49,7 @@ returns : tie.Need-returns Inv-loop μ-loop
 returns c =
     let b = c .before .before in
     let l = c .before .loop in
-    and-last (eqb (l .most) 0) ∙ ap (λ (x : Bool). eqb (l .most) 0 && x) (zero-end (bits (b .args .block .now)) (8 * l .i) (omega (arith, length-bits (b .args .block .now)))) ∙ l .inv .1
+    sym (and-true (eqb (l .most) 0)) ∙ ap (λ (x : Bool). eqb (l .most) 0 && x) (zero-end (bits (b .args .block .now)) (8 * l .i) (omega (arith, length-bits (b .args .block .now)))) ∙ l .inv .1
 
 pub bytes-zero-spec : {M : Type 1} → statement M
 bytes-zero-spec =

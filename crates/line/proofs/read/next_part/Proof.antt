@@ -1,7 +1,7 @@
 -- `line::read::next_part`: each return is one law, given what the calls ensure. Assumes nothing.
+use mathlib.Core.Bool.{and-eq-true-iff}
 use mathlib.Core.Path.{ap, _∙_}
 use borrow.Author.Needs.{needs}
-use Rattle.wire.proofs.Writes.{and-right}
 use Rattle.order.specs.Talk.{wrongToggle}
 use Rattle.sdo.specs.Eight.{answerOf}
 use Rattle.sdo.specs.Replies.{is-reading, nextPartReply}
@@ -21,7 +21,7 @@ reading-requires : tie.Need-reading-requires
 reading-requires c κs = search needs
 
 give-part-requires : tie.Need-give-part-requires
-give-part-requires c κs = let f = counts-fits (c .before .before .before .before .record-at .result) (and-right (is-reading (c .before .before .before .before .record-at .result .direction)) _ (said (c .before .before .before .reading .ensures) (c .before .before .if1 .taken))) in (c .before .before .before .before .before .before .before .pre, at-most-64 f, f .place-in)
+give-part-requires c κs = let f = counts-fits (c .before .before .before .before .record-at .result) (and-eq-true-iff (is-reading (c .before .before .before .before .record-at .result .direction)) _ .0 (said (c .before .before .before .reading .ensures) (c .before .before .if1 .taken)) .1) in (c .before .before .before .before .before .before .before .pre, at-most-64 f, f .place-in)
 
 same-length : tie.Need-same-length
 same-length c = search needs
@@ -36,7 +36,7 @@ returns c =
     c .before .before .give-part .ensures ∙ ap (replied p o) (next-given t u (said (c .before .before .before .before .before .before .reading .ensures) (c .before .before .before .before .before .if1 .taken)) (c .before .before .before .before .if2 .taken) ∙ ap (λ (x : Transfer). nextPartReply x u) (c .before .before .before .before .before .before .before .record-at .ensures))
 
 key-at-requires : tie.Need-key-at-requires
-key-at-requires c κs = let f = counts-fits (c .before .before .before .before .record-at .result) (and-right (is-reading (c .before .before .before .before .record-at .result .direction)) _ (said (c .before .before .before .reading .ensures) (c .before .before .if1 .taken))) in f .there
+key-at-requires c κs = let f = counts-fits (c .before .before .before .before .record-at .result) (and-eq-true-iff (is-reading (c .before .before .before .before .record-at .result .direction)) _ .0 (said (c .before .before .before .reading .ensures) (c .before .before .if1 .taken)) .1) in f .there
 
 wrong-toggle-requires : tie.Need-wrong-toggle-requires
 wrong-toggle-requires c κs = search needs

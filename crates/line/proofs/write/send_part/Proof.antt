@@ -1,8 +1,8 @@
 -- `line::write::send_part`: each return is one law, given what the calls ensure. Assumes nothing.
+use mathlib.Core.Bool.{and-eq-true-iff}
 use mathlib.Core.Path.{refl, ap, _∙_}
 use lib.ListN.{take, drop}
 use borrow.Author.Needs.{needs}
-use Rattle.wire.proofs.Writes.{and-right}
 use Rattle.order.specs.Talk.{wrongToggle}
 use Rattle.sdo.specs.Eight.{answerOf}
 use Rattle.sdo.specs.Replies.{ending, is-writing, sendPartReply}
@@ -23,7 +23,7 @@ writing-requires : tie.Need-writing-requires
 writing-requires c κs = search needs
 
 take-part-requires : tie.Need-take-part-requires
-take-part-requires c κs = let f = counts-fits (c .before .before .before .before .before .before .record-at .result) (and-right (is-writing (c .before .before .before .before .before .before .record-at .result .direction)) _ (said (c .before .before .before .before .before .writing .ensures) (c .before .before .before .before .if1 .taken))) in let s = c .before .before .before .before .before .before .before .before .before .before .before .before in (s .pre .0, (s .pre .1, s .pre .2), f .there, f .length-is, f .place-in, c .before .before .before .before .before .before .record-at .ensures)
+take-part-requires c κs = let f = counts-fits (c .before .before .before .before .before .before .record-at .result) (and-eq-true-iff (is-writing (c .before .before .before .before .before .before .record-at .result .direction)) _ .0 (said (c .before .before .before .before .before .writing .ensures) (c .before .before .before .before .if1 .taken)) .1) in let s = c .before .before .before .before .before .before .before .before .before .before .before .before in (s .pre .0, (s .pre .1, s .pre .2), f .there, f .length-is, f .place-in, c .before .before .before .before .before .before .record-at .ensures)
 
 same-length : tie.Need-same-length
 same-length c = search needs
@@ -47,7 +47,7 @@ returns c =
     c .before .before .before .before .before .before .take-part .ensures ∙ ap (answered p v b o) (sent-taken t bytes (s .args .last) u (said (c .before .before .before .before .before .before .before .before .before .before .before .before .writing .ensures) (c .before .before .before .before .before .before .before .before .before .before .before .if1 .taken)) (c .before .before .before .before .before .before .before .before .before .before .if2 .taken) ∙ ap (λ (x : Transfer). sendPartReply x u bytes (s .args .last)) (c .before .before .before .before .before .before .before .before .before .before .before .before .before .record-at .ensures))
 
 key-at-requires : tie.Need-key-at-requires
-key-at-requires c κs = let f = counts-fits (c .before .before .before .before .record-at .result) (and-right (is-writing (c .before .before .before .before .record-at .result .direction)) _ (said (c .before .before .before .writing .ensures) (c .before .before .if1 .taken))) in f .there
+key-at-requires c κs = let f = counts-fits (c .before .before .before .before .record-at .result) (and-eq-true-iff (is-writing (c .before .before .before .before .record-at .result .direction)) _ .0 (said (c .before .before .before .writing .ensures) (c .before .before .if1 .taken)) .1) in f .there
 
 wrong-toggle-requires : tie.Need-wrong-toggle-requires
 wrong-toggle-requires c κs = search needs
