@@ -16,7 +16,7 @@ use Rattle.block.proofs.Entries.{length-entry, length-bytes, entry-back
 use Rattle.block.proofs.Kept.{Kept}
 use Rattle.block.proofs.Walking.{fits, Keeps, part-long, length-saved}
 use Rattle.block.proofs.Zeros.{zeros, zeros-are}
-use Rattle.block.specs.Block.{LAYOUT, row-width, part, entry-bits, entry-bytes, within, widths, saved, load-rows, values-good, rows-good, all-zero, block-of, good}
+use Rattle.block.specs.Block.{LAYOUT, row-width, part, entry-bits, entry-bytes, within, widths, saved, load-rows, values-good, rows-good, all-zero, block-of, headed, good}
 use Rattle.table.specs.Row.{Row, no-row}
 use Rattle.wire.proofs.LittleLaws.{Bytes, bytes-part}
 use Rattle.wire.proofs.SpliceLaws.{length-splice, part-same, part-apart, splice-own}
@@ -169,7 +169,7 @@ module _ (others : List ℕ) (hb : Bytes others) (hn : length others ≡ 1024) w
 
     -- and is not faulty
     pub stored-good : model < 16 → good model (block-of model others rs) rs ≡ true
-    unfolding good block-of
+    unfolding headed good block-of
     stored-good h =
         let z : List ℕ = replicate (4096 - (8 + widths rs)) 0 in
         let s : List ℕ = saved others rs in
@@ -259,14 +259,14 @@ module _ (bs : List ℕ) (sm : Small bs) where
   -- a block that is not faulty, loaded into any values, stores as the same block
   pub store-loaded : (model : ℕ) (rs : List Row) (values : List ℕ) → Keeps rs → Rising 0 rs → length values ≡ 1024 → length bs ≡ 4096 → 8 + widths rs ≤ 4096
       → good model bs rs ≡ true → block-of model (load-rows bs 8 rs values) rs ≡ bs
-  unfolding block-of good
+  unfolding block-of headed good
   store-loaded model rs values k t n e u g =
       let w : ℕ = widths rs in
-      let ga = and-eq-true-iff (eqb (field bs 0 4) LAYOUT) (eqb (field bs 4 4) model && (rows-good bs 8 rs && all-zero (drop (8 + w) bs))) .0 g in
-      let gb = and-eq-true-iff (eqb (field bs 4 4) model) (rows-good bs 8 rs && all-zero (drop (8 + w) bs)) .0 (ga .1) in
-      let gc = and-eq-true-iff (rows-good bs 8 rs) (all-zero (drop (8 + w) bs)) .0 (gb .1) in
-      let lay : msb 4 LAYOUT ≡ take 4 bs = ap (msb 4) (sym (eqb-true (field bs 0 4) LAYOUT (ga .0))) ∙ part-num 0 4 (omega arith) in
-      let mdl : msb 4 model ≡ take 4 (drop 4 bs) = ap (msb 4) (sym (eqb-true (field bs 4 4) model (gb .0))) ∙ part-num 4 4 (omega arith) in
+      let ga = and-eq-true-iff (headed model bs) (rows-good bs 8 rs && all-zero (drop (8 + w) bs)) .0 g in
+      let gb = and-eq-true-iff (eqb (field bs 0 4) LAYOUT) (eqb (field bs 4 4) model) .0 (ga .0) in
+      let gc = and-eq-true-iff (rows-good bs 8 rs) (all-zero (drop (8 + w) bs)) .0 (ga .1) in
+      let lay : msb 4 LAYOUT ≡ take 4 bs = ap (msb 4) (sym (eqb-true (field bs 0 4) LAYOUT (gb .0))) ∙ part-num 0 4 (omega arith) in
+      let mdl : msb 4 model ≡ take 4 (drop 4 bs) = ap (msb 4) (sym (eqb-true (field bs 4 4) model (gb .1))) ∙ part-num 4 4 (omega arith) in
       let ln : length (drop (8 + w) bs) ≡ 4096 - (8 + w) = length-drop (8 + w) bs ∙ ap (λ (x : ℕ). x - (8 + w)) e in
       let zs : replicate (4096 - (8 + w)) 0 ≡ drop (8 + w) bs = sym (zeros-are (drop (8 + w) bs) (gc .1) ∙ ap (λ (j : ℕ). replicate {A = ℕ} j 0) ln) in
       let rb : saved (load-rows bs 8 rs values) rs ≡ take w (drop 8 bs) = rows-bits rs 0 8 values k t n (omega arith) in
@@ -280,6 +280,5 @@ module _ (bs : List ℕ) (sm : Small bs) where
   unfolding good
   loaded-good model rs values k t n e u g =
       let w : ℕ = widths rs in
-      let ga = and-eq-true-iff (eqb (field bs 0 4) LAYOUT) (eqb (field bs 4 4) model && (rows-good bs 8 rs && all-zero (drop (8 + w) bs))) .0 g in
-      let gb = and-eq-true-iff (eqb (field bs 4 4) model) (rows-good bs 8 rs && all-zero (drop (8 + w) bs)) .0 (ga .1) in
-      rows-values rs 0 8 values k t n (omega arith) (and-eq-true-iff (rows-good bs 8 rs) (all-zero (drop (8 + w) bs)) .0 (gb .1) .0)
+      let ga = and-eq-true-iff (headed model bs) (rows-good bs 8 rs && all-zero (drop (8 + w) bs)) .0 g in
+      rows-values rs 0 8 values k t n (omega arith) (and-eq-true-iff (rows-good bs 8 rs) (all-zero (drop (8 + w) bs)) .0 (ga .1) .0)

@@ -15,7 +15,7 @@ use Rattle.block.proofs.Turns.{nv-keep, nv-length, nv-ends}
 use Rattle.block.proofs.Walking.{length-saved, held-all-good, saved-all-good, held-most, front-most}
 use Rattle.block.proofs.Zeros.{zero-field}
 use Rattle.block.specs.Asked.{fresh-bytes, held-front, saved-front}
-use Rattle.block.specs.Block.{LAYOUT, BAG552, widths, saved, load-rows, values-good, rows-good, all-zero, block-of, good}
+use Rattle.block.specs.Block.{LAYOUT, BAG552, widths, saved, load-rows, values-good, rows-good, all-zero, block-of, headed, good}
 use Rattle.block.specs.Saved.{nv, storable, stored, loadable, loaded}
 use Rattle.table.specs.Row.{Row}
 use Rattle.table.specs.Rows.{nv-count, nv-end}
@@ -38,40 +38,36 @@ taken-none b e = rw (← e)
 taken-all : (b : Bool) → true ≡ b → nv-count ≡ cond b nv-count 0
 taken-all b e = rw (← e)
 
-module _ (block : List ℕ) {layout model : ℕ} (is-layout : layout ≡ field (bits block) 0 4) (is-model : model ≡ field (bits block) 4 4) where
-  pub layout-bad : (layout ≡ LAYOUT → ⊥) → 0 ≡ cond (loadable block) nv-count 0
+-- a block with another head
+pub head-bad : (block values : List ℕ) {b : Bool} → b ≡ headed BAG552 (bits block) → b ≡ false → (false ≡ loadable block) × (values ≡ loaded block values)
+unfolding loadable good loaded
+head-bad block values e f = let h : headed BAG552 (bits block) ≡ false = sym e ∙ f in (rw h, rw h)
+
+module _ (block : List ℕ) (h : headed BAG552 (bits block) ≡ true) {rest : Bool} (is-rest : rest ≡ all-zero (drop nv-end (bits block))) where
+  by-parts : loadable block ≡ (rows-good (bits block) 8 nv && rest)
   unfolding loadable good
-  layout-bad d = taken-none (loadable block) (sym (rw (← is-layout, ne-eqb layout LAYOUT d)))
+  by-parts =
+      rw h
+      (ap (λ (k : ℕ). rows-good (bits block) 8 nv && all-zero (drop k (bits block))) nv-ends ∙ ap (λ (b : Bool). rows-good (bits block) 8 nv && b) (sym is-rest))
 
-  pub model-bad : layout ≡ LAYOUT → (model ≡ BAG552 → ⊥) → 0 ≡ cond (loadable block) nv-count 0
-  unfolding loadable good
-  model-bad e d = taken-none (loadable block) (sym (rw (← is-layout, ← is-model, eq-eqb layout LAYOUT e, ne-eqb model BAG552 d)))
+  pub rest-bad : rest ≡ false → 0 ≡ cond (loadable block) nv-count 0
+  rest-bad z = taken-none (loadable block) (sym (by-parts ∙ rw z (and-false (rows-good (bits block) 8 nv))))
 
-  module _ (e : layout ≡ LAYOUT) (f : model ≡ BAG552) {rest : Bool} (is-rest : rest ≡ all-zero (drop nv-end (bits block))) where
-    by-parts : loadable block ≡ (rows-good (bits block) 8 nv && rest)
-    unfolding loadable good
-    by-parts =
-        rw (← is-layout, ← is-model, eq-eqb layout LAYOUT e, eq-eqb model BAG552 f)
-        (ap (λ (k : ℕ). rows-good (bits block) 8 nv && all-zero (drop k (bits block))) nv-ends ∙ ap (λ (b : Bool). rows-good (bits block) 8 nv && b) (sym is-rest))
+  module _ (z : rest ≡ true) {front : ℕ} (is-front : front ≡ saved-front (bits block) 8 nv) where
+    by-front : loadable block ≡ eqb front nv-count
+    by-front =
+        by-parts ∙ ap (λ (b : Bool). rows-good (bits block) 8 nv && b) z ∙ and-true _
+        ∙ saved-all-good (bits block) 8 nv
+        ∙ ap (λ (k : ℕ). eqb k (length nv)) (sym is-front)
+        ∙ ap (eqb front) nv-length
 
-    pub rest-bad : rest ≡ false → 0 ≡ cond (loadable block) nv-count 0
-    rest-bad z = taken-none (loadable block) (sym (by-parts ∙ rw z (and-false (rows-good (bits block) 8 nv))))
+    pub entry-bad : front < nv-count → 0 ≡ cond (loadable block) nv-count 0
+    entry-bad h = taken-none (loadable block) (sym (by-front ∙ ne-eqb front nv-count (λ q. omega arith)))
 
-    module _ (z : rest ≡ true) {front : ℕ} (is-front : front ≡ saved-front (bits block) 8 nv) where
-      by-front : loadable block ≡ eqb front nv-count
-      by-front =
-          by-parts ∙ ap (λ (b : Bool). rows-good (bits block) 8 nv && b) z ∙ and-true _
-          ∙ saved-all-good (bits block) 8 nv
-          ∙ ap (λ (k : ℕ). eqb k (length nv)) (sym is-front)
-          ∙ ap (eqb front) nv-length
-
-      pub entry-bad : front < nv-count → 0 ≡ cond (loadable block) nv-count 0
-      entry-bad h = taken-none (loadable block) (sym (by-front ∙ ne-eqb front nv-count (λ q. omega arith)))
-
-      pub all-taken : nv-count ≤ front → front ≡ cond (loadable block) nv-count 0
-      all-taken h =
-          let q : front ≡ nv-count = omega (arith, front-most (bits block) 8 nv, nv-length) in
-          q ∙ taken-all (loadable block) (sym (by-front ∙ eq-eqb front nv-count q))
+    pub all-taken : nv-count ≤ front → front ≡ cond (loadable block) nv-count 0
+    all-taken h =
+        let q : front ≡ nv-count = omega (arith, front-most (bits block) 8 nv, nv-length) in
+        q ∙ taken-all (loadable block) (sym (by-front ∙ eq-eqb front nv-count q))
 
 -- ---- the block that is stored
 

@@ -84,7 +84,11 @@ all-zero (b ∷ bs) = eqb b 0 && all-zero bs
 unfoldable pub block-of : ℕ → List ℕ → List Row → List ℕ
 block-of model values rs = msb 4 LAYOUT ++ (msb 4 model ++ (saved values rs ++ replicate (4096 - (8 + widths rs)) 0))
 
+-- layout and model are the ones that are known here
+unfoldable pub headed : ℕ → List ℕ → Bool
+headed model bs = eqb (field bs 0 4) LAYOUT && eqb (field bs 4 4) model
+
 -- not faulty
 unfoldable pub good : ℕ → List ℕ → List Row → Bool
 good model bs rs =
-    eqb (field bs 0 4) LAYOUT && (eqb (field bs 4 4) model && (rows-good bs 8 rs && all-zero (drop (8 + widths rs) bs)))
+    headed model bs && (rows-good bs 8 rs && all-zero (drop (8 + widths rs) bs))

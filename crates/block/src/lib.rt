@@ -13,7 +13,7 @@ ghost use Rattle.table.specs.Row.{REAL};
 ghost use Rattle.table.specs.Rows.{nv-count, nv-end};
 ghost use Rattle.wire.specs.Little.{little, number};
 ghost use Rattle.wire.specs.Splice.{splice};
-ghost use Rattle.block.specs.Block.{LAYOUT, BAG552, width as width-by, entry-bits, entry-bytes, saved, load-rows, all-zero};
+ghost use Rattle.block.specs.Block.{LAYOUT, BAG552, width as width-by, entry-bits, entry-bytes, saved, load-rows, all-zero, headed};
 ghost use Rattle.block.specs.Saved.{nv, storable, stored, loadable, loaded};
 ghost use Rattle.block.specs.Asked.{Fields, Cuts, Places, Limits, Sized, fresh-bytes, entry-len, between, held-front, saved-front, Front};
 
@@ -209,7 +209,18 @@ fn rest_zero(block: &[u8], end: usize) -> bool
 
 // ---- The block.
 
-// How many entries a load takes, and their numbers: all of a block that is not faulty, none of a faulty one.
+// Are layout and model the ones that are known here?
+fn is_headed(block: &[u8]) -> bool
+    requires { ⌜ length (now block) ≡ 512 ⌝ }
+    ensures { λ r. ⌜ r ≡ headed BAG552 (bits (now (block .entry))) ⌝ }
+{
+    if bits::get_field(block, 0, 4) != LAYOUT {
+        return false;
+    }
+    bits::get_field(block, 4, 4) == MODEL
+}
+
+// How many entries a load takes of a block with that head, and their numbers: all of a block that is not faulty, none of a faulty one.
 fn entries_taken(
     kinds: &[u8],
     ats: &[u16],
@@ -219,15 +230,9 @@ fn entries_taken(
     block: &[u8],
     numbers: &mut [u32],
 ) -> usize
-    requires { ⌜ Fields (now kinds) (now ats) × Cuts (now cuts) × Limits (now lows) (now highs) × (length (now block) ≡ 512) × (length (now numbers) ≡ nv-count) ⌝ }
+    requires { ⌜ Fields (now kinds) (now ats) × Cuts (now cuts) × Limits (now lows) (now highs) × ((length (now block) ≡ 512) × (headed BAG552 (bits (now block)) ≡ true)) × (length (now numbers) ≡ nv-count) ⌝ }
     ensures { λ r. ⌜ (r ≡ cond (loadable (now (block .entry))) nv-count 0) × Front (bits (now (block .entry))) (now (numbers .exit)) r ⌝ }
 {
-    if bits::get_field(block, 0, 4) != LAYOUT {
-        return 0;
-    }
-    if bits::get_field(block, 4, 4) != MODEL {
-        return 0;
-    }
     if !rest_zero(block, columns::NV_END) {
         return 0;
     }
@@ -248,7 +253,7 @@ fn load_by(
     block: &[u8],
     values: &mut [u8],
 ) -> bool
-    requires { ⌜ Fields (now kinds) (now ats) × Cuts (now cuts) × Places (now places) × Limits (now lows) (now highs) × (length (now values) ≡ 1024) × (length (now block) ≡ 512) ⌝ }
+    requires { ⌜ Fields (now kinds) (now ats) × Cuts (now cuts) × Places (now places) × Limits (now lows) (now highs) × (length (now values) ≡ 1024) × ((length (now block) ≡ 512) × (headed BAG552 (bits (now block)) ≡ true)) ⌝ }
     ensures { λ r. ⌜ (r ≡ loadable (now (block .entry))) × (now (values .exit) ≡ loaded (now (block .entry)) (now (values .entry))) ⌝ }
 {
     let mut numbers = [0u32; columns::NV_ROWS];
@@ -321,9 +326,8 @@ pub fn store(values: &[u8], block: &mut [u8]) -> bool
     )
 }
 
-// Takes the block whole, or nothing where it is faulty.
-pub fn load(block: &[u8], values: &mut [u8]) -> bool
-    requires { ⌜ (length (now values) ≡ 1024) × (length (now block) ≡ 512) ⌝ }
+fn load_headed(block: &[u8], values: &mut [u8]) -> bool
+    requires { ⌜ (length (now values) ≡ 1024) × ((length (now block) ≡ 512) × (headed BAG552 (bits (now block)) ≡ true)) ⌝ }
     ensures { λ r. ⌜ (r ≡ loadable (now (block .entry))) × (now (values .exit) ≡ loaded (now (block .entry)) (now (values .entry))) ⌝ }
 {
     load_by(
@@ -336,4 +340,16 @@ pub fn load(block: &[u8], values: &mut [u8]) -> bool
         block,
         values,
     )
+}
+
+// Takes the block whole, or nothing where it is faulty. Columns that are lent are laid out first of all in a function, so the head of the
+// block, which a board that never stored has not, is looked at before one that lends them is called.
+pub fn load(block: &[u8], values: &mut [u8]) -> bool
+    requires { ⌜ (length (now values) ≡ 1024) × (length (now block) ≡ 512) ⌝ }
+    ensures { λ r. ⌜ (r ≡ loadable (now (block .entry))) × (now (values .exit) ≡ loaded (now (block .entry)) (now (values .entry))) ⌝ }
+{
+    if !is_headed(block) {
+        return false;
+    }
+    load_headed(block, values)
 }

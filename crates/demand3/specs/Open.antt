@@ -12,7 +12,7 @@ use Rattle.table.specs.Rule.{pick, held}
 use Rattle.entry.specs.Limits.{verdict-code, first-fault, whole-verdict, real-verdict, by-kind, kind-verdict}
 use Rattle.entry.specs.Entry.{entry-of, stored as entry-stored, default-of, defaulted, defaults, number-verdict, row-verdict}
 use Rattle.card.specs.Card.{enable, point-fields, point-bits, card-bits, card-of, fields-of, layout-verdict, level-verdict, first-bad, point-verdict, card-verdict, with-point, with-card}
-use Rattle.block.specs.Block.{width, entry-bits, entry-bytes, within, nv-rows, widths, saved, load-rows, values-good, rows-good, all-zero, block-of, good}
+use Rattle.block.specs.Block.{width, entry-bits, entry-bytes, within, nv-rows, widths, saved, load-rows, values-good, rows-good, all-zero, block-of, headed, good}
 use Rattle.block.specs.Saved.{storable, stored as block-stored, loadable, loaded}
 use Rattle.gate.specs.Gates.{gate, smallest, largest, sizes-of}
 use Rattle.gate.specs.Lock.{guarded, locked}
@@ -33,7 +33,7 @@ use Rattle.board.specs.Calls.{sized, number-by, served, message-call, power-up-
 use Rattle.demand3.specs.Firmware.{exported, history, final, power-on, line-of, answer-by, event-of, with-event, events, observed}
 
 unfoldable pub opened : Unit {0}
-unfolding lt isNan ofBits ofFields splice little fromLittle number real msb bits num-from num field packed encode decode rows find-from find-row pick held verdict-code first-fault whole-verdict real-verdict by-kind kind-verdict entry-of entry-stored default-of defaulted defaults number-verdict row-verdict enable point-fields point-bits card-bits card-of fields-of layout-verdict level-verdict first-bad point-verdict card-verdict with-point with-card width entry-bits entry-bytes within nv-rows widths saved load-rows values-good rows-good all-zero block-of good storable block-stored loadable loaded gate smallest largest sizes-of command-at word-of read-word status-of with-status same-bytes guarded locked fresh-values powered-up status-by done obeyed by-type value-of read-through read-whole first-code verdict-of last-checks effect accepted commit-row with-trips commit-through commit-whole write-sizes narrowed narrow counted judged judgedBy writeWhole readOpening givePart readPart conclude takePart writeOpening writePart serve choice openingBy messageOf asked askOf answerOf eight numberOf allows counts pending view base lay speak record-place direction-of direction-byte is-on record-at record-tail record-bytes trips-at trips-bytes sized number-by dropped settled served message-call power-up-call exported history final power-on
+unfolding lt isNan ofBits ofFields splice little fromLittle number real msb bits num-from num field packed encode decode rows find-from find-row pick held verdict-code first-fault whole-verdict real-verdict by-kind kind-verdict entry-of entry-stored default-of defaulted defaults number-verdict row-verdict enable point-fields point-bits card-bits card-of fields-of layout-verdict level-verdict first-bad point-verdict card-verdict with-point with-card width entry-bits entry-bytes within nv-rows widths saved load-rows values-good rows-good all-zero block-of headed good storable block-stored loadable loaded gate smallest largest sizes-of command-at word-of read-word status-of with-status same-bytes guarded locked fresh-values powered-up status-by done obeyed by-type value-of read-through read-whole first-code verdict-of last-checks effect accepted commit-row with-trips commit-through commit-whole write-sizes narrowed narrow counted judged judgedBy writeWhole readOpening givePart readPart conclude takePart writeOpening writePart serve choice openingBy messageOf asked askOf answerOf eight numberOf allows counts pending view base lay speak record-place direction-of direction-byte is-on record-at record-tail record-bytes trips-at trips-bytes sized number-by dropped settled served message-call power-up-call exported history final power-on
 opened = tt
 
 unfoldable pub observer-opened : Unit {0}

@@ -1,53 +1,31 @@
--- `load` lends the columns: they are computed to be the NV rows'. Assumes nothing.
-use mathlib.Core.Path.{refl}
+-- `load` meets its contract: a block with another head is not looked into. Assumes nothing.
+use mathlib.Core.Path.{sym, _∙_}
+use borrow.Author.Tests.{not-true, not-false}
 use borrow.Author.Needs.{needs}
+use Rattle.block.proofs.Whole.{head-bad}
 use Rattle.block.proofs.load.Statement.{statement}
-use Rattle.block.specs.Asked.{starts, cut, lowest, highest}
-use Rattle.block.specs.Block.{width, nv-rows}
-use Rattle.table.specs.Rows.{rows}
-use Rattle.table.specs.Rule.{pick, rank, real-rank}
 use Rattle.block.proofs.load.Tie as tie
 
-slice-aggregate-load-by : tie.Need-slice-aggregate-load-by
-slice-aggregate-load-by c = search needs
+is-headed-requires : tie.Need-is-headed-requires
+is-headed-requires c κs = search needs
 
-slice-aggregate-load-by-2 : tie.Need-slice-aggregate-load-by-2
-slice-aggregate-load-by-2 c = search needs
+returns : tie.Need-returns
+returns c =
+    let h = c .before in
+    let b = h .before .before .before in
+    head-bad (b .args .block .now) (b .args .values .now) (h .is-headed .ensures) (not-true (h .is-headed .result) (c .if1 .taken))
 
-slice-aggregate-load-by-3 : tie.Need-slice-aggregate-load-by-3
-slice-aggregate-load-by-3 c = search needs
-
-slice-aggregate-load-by-4 : tie.Need-slice-aggregate-load-by-4
-slice-aggregate-load-by-4 c = search needs
-
-slice-aggregate-load-by-5 : tie.Need-slice-aggregate-load-by-5
-slice-aggregate-load-by-5 c = search needs
-
-slice-aggregate-load-by-6 : tie.Need-slice-aggregate-load-by-6
-slice-aggregate-load-by-6 c = search needs
-
-load-by-requires : tie.Need-load-by-requires
-unfolding rows nv-rows width starts cut rank real-rank pick lowest highest
-load-by-requires c κs =
-    let b = c .before .before .before .before .before .before .before .before .before in
-    (record { kinds-are = refl; ats-are = refl }, refl, refl, record { lows-are = refl; highs-are = refl }, b .pre .0, b .pre .1)
+load-headed-requires : tie.Need-load-headed-requires
+load-headed-requires c κs =
+    let h = c .before .before in
+    let b = h .before .before .before in
+    (b .pre .0, (b .pre .1, sym (h .is-headed .ensures) ∙ not-false (h .is-headed .result) (c .before .if1 .left)))
 
 same-length : tie.Need-same-length
 same-length c = search needs
 
-returns : tie.Need-returns
-returns c = search needs
+returns-2 : tie.Need-returns-2
+returns-2 c = search needs
 
 pub load-spec : {M : Type 1} → statement M
-load-spec =
-    tie.close
-    (tie.spec
-    slice-aggregate-load-by
-    slice-aggregate-load-by-2
-    slice-aggregate-load-by-3
-    slice-aggregate-load-by-4
-    slice-aggregate-load-by-5
-    slice-aggregate-load-by-6
-    load-by-requires
-    same-length
-    returns)
+load-spec = tie.close (tie.spec is-headed-requires returns load-headed-requires same-length returns-2)

@@ -14,7 +14,7 @@ take-entries-requires : tie.Need-take-entries-requires
 take-entries-requires c κs =
     let b = c .before .before .before .before .before .before .before .before .before .before .before .before .before in
     let a = b .args in
-    (taken-most (a .block .now) (c .before .before .before .entries-taken .ensures .0), b .pre .0, b .pre .2, c .before .before .before .entries-taken .ensures .1, b .pre .5, b .pre .4)
+    (taken-most (a .block .now) (c .before .before .before .entries-taken .ensures .0), b .pre .0, b .pre .2, c .before .before .before .entries-taken .ensures .1, b .pre .5 .0, b .pre .4)
 
 same-length : tie.Need-same-length
 same-length c = search needs
