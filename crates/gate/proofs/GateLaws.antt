@@ -1,48 +1,51 @@
 -- The gate by cases, as the code takes it; what a key that leads to a row says of it. Assumes nothing.
 use mathlib.Core.Path.{_≡_, refl, sym, ap, subst, _∙_}
 use mathlib.Core.Bool.{Bool, true, false, cond}
-use Prim.Native.Nat.{ℕ, _<_}
+use Prim.Native.Nat.{ℕ}
 use native.Mathlib.Omega.{arith}
 use lib.Dec.{eqb}
 use borrow.Author.Tests.{eqb-false, eq-eqb, ne-eqb}
-use Rattle.table.specs.Rows.{at-row, row-count}
+use Rattle.table.specs.Rows.{at-row}
 use Rattle.table.specs.Columns.{shape, access-in}
-use Rattle.table.specs.Find.{find-row}
+use Rattle.table.specs.Find.{find-row, with-shape}
 use Rattle.table.specs.declared.Found.{Found}
 use Rattle.table.specs.declared.Found.the-variants.{At, NoIndex, NoSub}
+use Rattle.table.specs.declared.Sought.{Sought}
+use Rattle.table.specs.declared.Sought.the-variants.{Row as Row', NoIndex as NoIndex', NoSub as NoSub'}
 use Rattle.table.proofs.Table.{find-at}
+use Rattle.table.proofs.Way.{sought-row, sought-no-index, sought-no-sub}
 use Rattle.table.proofs.Shapes.{access-told}
 use Rattle.gate.specs.Gates.{to-row, no-way, gate, way-of, Shaped, index-absent, subindex-absent}
 use Rattle.gate.specs.declared.Gate.{Gate}
 use Rattle.gate.specs.declared.Gate.the-variants.{Open, Shut}
 
-module _ (barred code index sub : ℕ) {f : Found} (found : f ≡ find-row index sub) where
+module _ (barred code index sub : ℕ) {f : Sought} (sought : f ≡ with-shape (find-row index sub)) where
   -- what the code promises of the enum that it gives
   abbrev Gated : Gate → Type 0
   Gated g = (way-of g ≡ gate barred code (find-row index sub)) × Shaped g
 
-  pub there : (r : ℕ) → f ≡ At r → r < row-count
-  there r e = find-at index sub r (sym found ∙ e) .there
+  module _ (r s a : ℕ) (e : f ≡ Row' r s) (q : a ≡ access-in s) where
+    told : (find-row index sub ≡ At r) × (s ≡ shape (at-row r))
+    told = sought-row (find-row index sub) (sym e ∙ sought)
 
-  module _ (r a : ℕ) {s : ℕ} (e : f ≡ At r) (h : s ≡ shape (at-row r)) (q : a ≡ access-in s) where
     access : a ≡ at-row r .access
-    access = access-told r (there r e) h q
+    access = access-told r (find-at index sub r (told .0) .there) (told .1) q
 
     pub barred-row : a ≡ barred → Gated (Shut code)
     unfolding gate way-of Shaped
-    barred-row b = (rw (sym found ∙ e, eq-eqb (at-row r .access) barred (sym access ∙ b)), tt)
+    barred-row b = (rw (told .0, eq-eqb (at-row r .access) barred (sym access ∙ b)), tt)
 
     pub open-row : (a ≡ barred → ⊥) → Gated (Open r s)
     unfolding gate way-of Shaped
-    open-row b = (rw (sym found ∙ e, ne-eqb (at-row r .access) barred (λ z. b (access ∙ z))), h)
+    open-row b = (rw (told .0, ne-eqb (at-row r .access) barred (λ z. b (access ∙ z))), told .1)
 
-  pub no-index : f ≡ NoIndex → Gated (Shut index-absent)
+  pub no-index : f ≡ NoIndex' → Gated (Shut index-absent)
   unfolding gate way-of Shaped
-  no-index e = (rw (sym found ∙ e), tt)
+  no-index e = (rw (sought-no-index (find-row index sub) (sym e ∙ sought)), tt)
 
-  pub no-sub : f ≡ NoSub → Gated (Shut subindex-absent)
+  pub no-sub : f ≡ NoSub' → Gated (Shut subindex-absent)
   unfolding gate way-of Shaped
-  no-sub e = (rw (sym found ∙ e), tt)
+  no-sub e = (rw (sought-no-sub (find-row index sub) (sym e ∙ sought)), tt)
 
 -- ---- what an open gate says
 

@@ -1,7 +1,7 @@
 // What may be read and written: the table's checks of a key, index, subindex and access; and the setup lock.
 pub mod lock;
 
-use table::Found;
+use table::Sought;
 use table::field;
 ghost use mathlib.Core.Path.{_≡_};
 ghost use Rattle.table.specs.Find.{find-row};
@@ -19,15 +19,14 @@ fn way(index: u16, sub: u8, barred: u8, code: u32) -> Gate
 {
     let found = table::find(index, sub);
     match found {
-        Found::At(row) => {
-            let shape = field::shape_of(row);
+        Sought::Row(row, shape) => {
             if field::access_in(shape) == barred {
                 return Gate::Shut(code);
             }
             Gate::Open(row, shape)
         }
-        Found::NoIndex => Gate::Shut(0x06020000),
-        Found::NoSub => Gate::Shut(0x06090011),
+        Sought::NoIndex => Gate::Shut(0x06020000),
+        Sought::NoSub => Gate::Shut(0x06090011),
     }
 }
 

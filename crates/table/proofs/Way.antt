@@ -1,5 +1,5 @@
 -- The way to a row on rising keys: where the rows below the key end, what stands there decides. Assumes nothing.
-use mathlib.Core.Path.{_≡_, sym, ap}
+use mathlib.Core.Path.{_≡_, refl, sym, ap, _∙_}
 use mathlib.Core.Logic.{⊎-elim}
 use Prim.Native.Nat.{ℕ, _+_, _-_, _/_, _%_, _<_, _≤_}
 use native.Mathlib.Omega.{arith}
@@ -7,9 +7,12 @@ use lib.Dec.{eqb}
 use borrow.Author.Tests.{eq-eqb, ne-eqb}
 use Rattle.table.specs.Rows.{rows, row-count, at-row}
 use Rattle.table.specs.Rule.{key}
-use Rattle.table.specs.Find.{absence, find-key, Near}
+use Rattle.table.specs.Columns.{shape}
+use Rattle.table.specs.Find.{absence, find-key, with-shape, Near}
+use Rattle.table.specs.declared.Found.{Found}
 use Rattle.table.specs.declared.Found.the-variants.{At, NoIndex, NoSub}
-use Rattle.table.proofs.Table.{rows-length, row-rule, before, row-found, no-sub-find, no-index-find}
+use Rattle.table.specs.declared.Sought.the-variants.{Row as Row', NoIndex as NoIndex', NoSub as NoSub'}
+use Rattle.table.proofs.Table.{rows-length, row-rule, before, find-at, row-found, no-sub-find, no-index-find}
 use Rattle.table.proofs.Walks.{lt-or-ge, same-or-not}
 use Rattle.table.proofs.Searched.{No-key}
 
@@ -28,7 +31,7 @@ pub sub-in : (r : ℕ) → r < row-count → key (at-row r) % 256 ≡ at-row r .
 unfolding key
 sub-in r l = omega (arith, row-rule r l .sub-byte)
 
--- ---- a hop
+-- ---- hops
 
 pub hopped : (r n k : ℕ) → Near (n + n) r k → r + n < row-count → key (at-row (r + n)) < k → Near n (r + n) k
 hopped r n k near h g =
@@ -38,8 +41,28 @@ hopped r n k near h g =
       reached = λ q. let e : r + (n + n) ≡ r + n + n = omega arith in rw e at (near .reached (omega arith));
     }
 
-pub stayed : (r n k : ℕ) → Near (n + n) r k → (r + n < row-count → k ≤ key (at-row (r + n))) → Near n (r + 0) k
-stayed r n k near g = let e : r + 0 ≡ r = omega arith in rw e (record { inside = near .inside; below = near .below; reached = g })
+pub stayed : (r n k : ℕ) → Near (n + n) r k → (r + n < row-count → k ≤ key (at-row (r + n))) → Near n r k
+stayed r n k near g = record { inside = near .inside; below = near .below; reached = g }
+
+pub wider : (n r k : ℕ) → Near n r k → Near (n + 1) r k
+wider n r k near =
+    record {
+      inside = near .inside;
+      below = near .below;
+      reached = λ h. omega (arith, near .reached (omega arith), key-rises (r + n) (r + (n + 1)) (omega arith) h);
+    }
+
+-- as far as a row that has the key: it stands behind the row below, and no further than the step
+pub found-near : (n r k m : ℕ) → Near n r k → find-key k ≡ At m → (r < m) × (m ≤ r + n) × (m < row-count)
+found-near n r k m near e =
+    let f = find-at (k / 256) (k % 256) m e in
+    let i = f .index-is in
+    let b = f .sub-is in
+    let q : key (at-row m) ≡ k = omega (arith, index-in m (f .there), sub-in m (f .there)) in (
+      ⊎-elim (λ (l : r < m). l) (λ (l : m ≤ r). absurd (omega (arith, near .below, key-rises m r l (near .inside)))) (lt-or-ge r m),
+      ⊎-elim (λ (l : r + n < m). absurd (omega (arith, near .reached (omega arith), before (r + n) m l (f .there) .rise))) (λ (l : m ≤ r + n). l) (lt-or-ge (r + n) m),
+      f .there,
+    )
 
 -- ---- where the rows below the key end
 
@@ -107,9 +130,34 @@ module _ (r k : ℕ) (f : First r k) where
       z : r - 1 ≡ b
       z = omega (arith, e)
 
-  -- no row is before row r: it tells itself
-  pub first-tells : r ≡ 0 → (key (at-row r) ≡ k → ⊥) → absence (eqb (key (at-row r) / 256) (k / 256)) ≡ find-key k
-  first-tells z d = ⊎-elim
-      (λ (e : key (at-row r) / 256 ≡ k / 256). rw (eq-eqb _ _ e) (index-seen (λ h. d) r (omega arith) e))
-      (λ (d : key (at-row r) / 256 ≡ k / 256 → ⊥). rw (ne-eqb _ _ d) (nowhere (λ h. d) (λ h. absurd (omega arith))))
-      (same-or-not (key (at-row r) / 256) (k / 256))
+  -- no row is before row r, and it has another index
+  pub none-first : r ≡ 0 → (key (at-row r) / 256 ≡ k / 256 → ⊥) → NoIndex ≡ find-key k
+  none-first z d = nowhere (λ h. d) (λ h. absurd (omega arith))
+
+-- ---- a row that was found, with its shape
+
+pub row-sought : {f g : Found} {r s : ℕ} → f ≡ g → f ≡ At r → s ≡ shape (at-row r) → Row' r s ≡ with-shape g
+unfolding with-shape
+row-sought {f} {g} {r} {s} e q h = ap (Row' r) h ∙ ap with-shape (sym q ∙ e)
+
+-- what the enum says of the key
+pub sought-row : (f : Found) {r s : ℕ} → Row' r s ≡ with-shape f → (f ≡ At r) × (s ≡ shape (at-row r))
+unfolding with-shape
+sought-row (At n) {r} {s} e =
+    let a : n ≡ r = cc in
+    let b : s ≡ shape (at-row n) = cc in
+    (ap At a, b ∙ ap (λ (m : ℕ). shape (at-row m)) a)
+sought-row NoIndex e = let z : _≡_ {A = ℕ} 0 1 = cc in absurd (omega arith)
+sought-row NoSub e = let z : _≡_ {A = ℕ} 0 1 = cc in absurd (omega arith)
+
+pub sought-no-index : (f : Found) → NoIndex' ≡ with-shape f → f ≡ NoIndex
+unfolding with-shape
+sought-no-index (At n) e = let z : _≡_ {A = ℕ} 0 1 = cc in absurd (omega arith)
+sought-no-index NoIndex e = refl
+sought-no-index NoSub e = let z : _≡_ {A = ℕ} 0 1 = cc in absurd (omega arith)
+
+pub sought-no-sub : (f : Found) → NoSub' ≡ with-shape f → f ≡ NoSub
+unfolding with-shape
+sought-no-sub (At n) e = let z : _≡_ {A = ℕ} 0 1 = cc in absurd (omega arith)
+sought-no-sub NoIndex e = let z : _≡_ {A = ℕ} 0 1 = cc in absurd (omega arith)
+sought-no-sub NoSub e = refl

@@ -2,7 +2,7 @@ pub mod Row
 pub mod Rows
 pub mod Walk
 pub mod Rule
-pub mod Find
 pub mod Pairs
 pub mod Columns
+pub mod Find
 pub mod Places

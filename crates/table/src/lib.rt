@@ -12,7 +12,7 @@ ghost use lib.Dec.{eqb};
 ghost use Rattle.table.specs.Rows.{at-row};
 ghost use Rattle.table.specs.Rule.{key as row-key};
 ghost use Rattle.table.specs.Columns.{column};
-ghost use Rattle.table.specs.Find.{absence, find-row, find-key, Near};
+ghost use Rattle.table.specs.Find.{absence, find-row, find-key, with-shape, Near};
 
 pub const ROWS: usize = columns::ROWS;
 
@@ -23,12 +23,20 @@ pub enum Found {
     NoSub,
 }
 
-// Row from is below the key: so is the row a step on, or it is not. Where the row two steps on is not, one hop is enough. Keys rise.
-fn hop(keys: &[u32], from: usize, step: usize, key: u32) -> usize
-    requires { ⌜ (now keys ≡ column row-key) × (step ≤ 256) × Near (step + step) from key ⌝ }
-    ensures { λ r. ⌜ Near step (from + r) key ⌝ }
+// The same, with the row's shape (field.rt), which is read on the way.
+pub enum Sought {
+    Row(usize, u16),
+    NoIndex,
+    NoSub,
+}
+
+// Row base + at is below the key: so is the row a step on, or it is not. Where the row two steps on is not, one hop is enough. Keys rise.
+// Base and at are two numbers, so that the compiler sees how far hops lead from a base that it knows.
+fn hop(keys: &[u32], base: usize, at: usize, step: usize, key: u32) -> usize
+    requires { ⌜ (now keys ≡ column row-key) × (step ≤ 256) × Near (step + step) (base + at) key ⌝ }
+    ensures { λ r. ⌜ Near step (base + (at + r)) key ⌝ }
 {
-    let to = from + step;
+    let to = base + at + step;
     if to < ROWS {
         if keys[to] < key {
             return step;
@@ -65,103 +73,131 @@ fn found_behind(keys: &[u32], last: usize, key: u32) -> Found
     absent(keys[last], key)
 }
 
-// What is found where no row is below the key.
-fn found_first(key: u32) -> Found
-    requires { ⌜ key ≤ row-key (at-row 0) ⌝ }
+// Row base is below the key and the row 32 rows on is not. The column is lent, so that it is laid out once for all hops.
+fn search(keys: &[u32], base: usize, key: u32) -> Found
+    requires { ⌜ (now keys ≡ column row-key) × Near 32 base key ⌝ }
     ensures { λ r. ⌜ r ≡ find-key key ⌝ }
 {
-    if columns::KEY[0] == key {
-        return Found::At(0);
-    }
-    absent(columns::KEY[0], key)
-}
-
-// Row from is below the key and the row 32 rows on is not. The column is lent, so that it is laid out once for all hops.
-fn search(keys: &[u32], from: usize, key: u32) -> Found
-    requires { ⌜ (now keys ≡ column row-key) × Near 32 from key ⌝ }
-    ensures { λ r. ⌜ r ≡ find-key key ⌝ }
-{
-    let a = from + hop(keys, from, 16, key);
-    let b = a + hop(keys, a, 8, key);
-    let c = b + hop(keys, b, 4, key);
-    let d = c + hop(keys, c, 2, key);
-    let last = d + hop(keys, d, 1, key);
-    found_behind(keys, last, key)
+    let a = hop(keys, base, 0, 16, key);
+    let b = a + hop(keys, base, a, 8, key);
+    let c = b + hop(keys, base, b, 4, key);
+    let d = c + hop(keys, base, c, 2, key);
+    let at = d + hop(keys, base, d, 1, key);
+    found_behind(keys, base + at, key)
 }
 
 // From row 128 on. No table has more than 511 rows.
 fn search_rest(keys: &[u32], key: u32) -> Found
-    requires { ⌜ (now keys ≡ column row-key) × Near 512 128 key ⌝ }
+    requires { ⌜ (now keys ≡ column row-key) × Near 512 127 key ⌝ }
     ensures { λ r. ⌜ r ≡ find-key key ⌝ }
 {
-    let a = 128 + hop(keys, 128, 256, key);
-    let b = a + hop(keys, a, 128, key);
-    let c = b + hop(keys, b, 64, key);
-    let d = c + hop(keys, c, 32, key);
-    search(keys, d, key)
+    let a = hop(keys, 127, 0, 256, key);
+    let b = a + hop(keys, 127, a, 128, key);
+    let c = b + hop(keys, 127, b, 64, key);
+    let d = c + hop(keys, 127, c, 32, key);
+    search(keys, 127 + d, key)
 }
 
-// ---- the search by pages, as the fields are read (page.rt): each lays out the keys of its own rows
+// ---- by pages: each function lays out the keys and shapes of its own rows, as in page.rt
 
-fn find_from_0(key: u32) -> Found
-    requires { ⌜ Near 32 0 key ⌝ }
-    ensures { λ r. ⌜ r ≡ find-key key ⌝ }
+fn find_from_0(key: u32) -> Sought
+    requires { ⌜ Near 31 0 key ⌝ }
+    ensures { λ r. ⌜ r ≡ with-shape (find-key key) ⌝ }
 {
-    search(&columns::KEY, 0, key)
+    let found = search(&columns::KEY, 0, key);
+    match found {
+        Found::At(row) => Sought::Row(row, page::shape_from_0(row)),
+        Found::NoIndex => Sought::NoIndex,
+        Found::NoSub => Sought::NoSub,
+    }
 }
 
-fn find_from_32(key: u32) -> Found
-    requires { ⌜ Near 32 32 key ⌝ }
-    ensures { λ r. ⌜ r ≡ find-key key ⌝ }
+fn find_from_32(key: u32) -> Sought
+    requires { ⌜ Near 32 31 key ⌝ }
+    ensures { λ r. ⌜ r ≡ with-shape (find-key key) ⌝ }
 {
-    search(&columns::KEY, 32, key)
+    let found = search(&columns::KEY, 31, key);
+    match found {
+        Found::At(row) => Sought::Row(row, page::shape_from_32(row)),
+        Found::NoIndex => Sought::NoIndex,
+        Found::NoSub => Sought::NoSub,
+    }
 }
 
-fn find_from_64(key: u32) -> Found
-    requires { ⌜ Near 32 64 key ⌝ }
-    ensures { λ r. ⌜ r ≡ find-key key ⌝ }
+fn find_from_64(key: u32) -> Sought
+    requires { ⌜ Near 32 63 key ⌝ }
+    ensures { λ r. ⌜ r ≡ with-shape (find-key key) ⌝ }
 {
-    search(&columns::KEY, 64, key)
+    let found = search(&columns::KEY, 63, key);
+    match found {
+        Found::At(row) => Sought::Row(row, page::shape_from_64(row)),
+        Found::NoIndex => Sought::NoIndex,
+        Found::NoSub => Sought::NoSub,
+    }
 }
 
-fn find_from_96(key: u32) -> Found
-    requires { ⌜ Near 32 96 key ⌝ }
-    ensures { λ r. ⌜ r ≡ find-key key ⌝ }
+fn find_from_96(key: u32) -> Sought
+    requires { ⌜ Near 32 95 key ⌝ }
+    ensures { λ r. ⌜ r ≡ with-shape (find-key key) ⌝ }
 {
-    search(&columns::KEY, 96, key)
+    let found = search(&columns::KEY, 95, key);
+    match found {
+        Found::At(row) => Sought::Row(row, page::shape_from_96(row)),
+        Found::NoIndex => Sought::NoIndex,
+        Found::NoSub => Sought::NoSub,
+    }
 }
 
-fn find_from_128(key: u32) -> Found
-    requires { ⌜ Near 512 128 key ⌝ }
-    ensures { λ r. ⌜ r ≡ find-key key ⌝ }
+fn find_from_128(key: u32) -> Sought
+    requires { ⌜ Near 512 127 key ⌝ }
+    ensures { λ r. ⌜ r ≡ with-shape (find-key key) ⌝ }
 {
-    search_rest(&columns::KEY, key)
+    let found = search_rest(&columns::KEY, key);
+    match found {
+        Found::At(row) => Sought::Row(row, page::shape_from_128(row)),
+        Found::NoIndex => Sought::NoIndex,
+        Found::NoSub => Sought::NoSub,
+    }
 }
 
-fn find_key(key: u32) -> Found
-    ensures { λ r. ⌜ r ≡ find-key key ⌝ }
+// No row is below the key.
+fn find_first(key: u32) -> Sought
+    requires { ⌜ key ≤ row-key (at-row 0) ⌝ }
+    ensures { λ r. ⌜ r ≡ with-shape (find-key key) ⌝ }
 {
-    if columns::KEY[64] < key {
-        if columns::KEY[128] < key {
+    if columns::KEY[0] == key {
+        return Sought::Row(0, columns::SHAPE[0]);
+    }
+    if columns::KEY[0] / 256 == key / 256 {
+        return Sought::NoSub;
+    }
+    Sought::NoIndex
+}
+
+fn find_key(key: u32) -> Sought
+    ensures { λ r. ⌜ r ≡ with-shape (find-key key) ⌝ }
+{
+    if columns::KEY[63] < key {
+        if columns::KEY[127] < key {
             return find_from_128(key);
         }
-        if columns::KEY[96] < key {
+        if columns::KEY[95] < key {
             return find_from_96(key);
         }
         return find_from_64(key);
     }
-    if columns::KEY[32] < key {
+    if columns::KEY[31] < key {
         return find_from_32(key);
     }
     if columns::KEY[0] < key {
         return find_from_0(key);
     }
-    found_first(key)
+    find_first(key)
 }
 
-// The row with the index and subindex, or which of the two is absent.
-pub fn find(index: u16, sub: u8) -> Found
-    ensures { λ r. ⌜ r ≡ find-row index sub ⌝ }
+// The row with the index and subindex, and its shape, or which of the two is absent.
+pub fn find(index: u16, sub: u8) -> Sought
+    ensures { λ r. ⌜ r ≡ with-shape (find-row index sub) ⌝ }
 {
     find_key((index as u32) * 256 + wide::to_u32(sub))
 }

@@ -1,6 +1,6 @@
 -- `gate::way`: each return is one law, given what the calls ensure. Assumes nothing.
 use borrow.Author.Needs.{needs}
-use Rattle.gate.proofs.GateLaws.{there, barred-row, open-row, no-index, no-sub}
+use Rattle.gate.proofs.GateLaws.{barred-row, open-row, no-index, no-sub}
 use Rattle.gate.proofs.way.Statement.{statement}
 use Rattle.gate.proofs.way.Tie as tie
 
@@ -10,20 +10,14 @@ find-requires c κs = search needs
 enum-known-found : tie.Need-enum-known-found
 enum-known-found c = search needs
 
-shape-of-requires : tie.Need-shape-of-requires
-shape-of-requires c κs =
-    let s = c .before .before .before .before in
-    there (s .args .barred) (s .args .code) (s .args .index) (s .args .sub) (c .before .before .before .find .ensures) (c .before .found .given .0 .0) (c .before .found .given .1)
-
 access-in-requires : tie.Need-access-in-requires
 access-in-requires c κs = search needs
 
 returns : tie.Need-returns
 returns c =
-    let f = c .before .before .before .before in
+    let f = c .before .before .before in
     let s = f .before .before .before in
-    let e = c .before .before .shape-of .ensures in
-    barred-row (s .args .barred) (s .args .code) (s .args .index) (s .args .sub) (f .before .before .find .ensures) (f .found .given .0 .0) (c .before .access-in .result) (f .found .given .1) e (c .before .access-in .ensures) (c .if1 .taken)
+    barred-row (s .args .barred) (s .args .code) (s .args .index) (s .args .sub) (f .before .before .find .ensures) (f .found .given .0 .0) (f .found .given .0 .1 .0) (c .before .access-in .result) (f .found .given .1) (c .before .access-in .ensures) (c .if1 .taken)
 
 enum-told : tie.Need-enum-told
 enum-told c = search needs
@@ -33,10 +27,9 @@ enum-told-2 c = search needs
 
 returns-2 : tie.Need-returns-2
 returns-2 c =
-    let f = c .before .before .before .before in
+    let f = c .before .before .before in
     let s = f .before .before .before in
-    let e = c .before .before .shape-of .ensures in
-    open-row (s .args .barred) (s .args .code) (s .args .index) (s .args .sub) (f .before .before .find .ensures) (f .found .given .0 .0) (c .before .access-in .result) (f .found .given .1) e (c .before .access-in .ensures) (c .if1 .left)
+    open-row (s .args .barred) (s .args .code) (s .args .index) (s .args .sub) (f .before .before .find .ensures) (f .found .given .0 .0) (f .found .given .0 .1 .0) (c .before .access-in .result) (f .found .given .1) (c .before .access-in .ensures) (c .if1 .left)
 
 returns-3 : tie.Need-returns-3
 returns-3 c =
@@ -54,7 +47,6 @@ way-spec =
     (tie.spec
     find-requires
     enum-known-found
-    shape-of-requires
     access-in-requires
     returns
     enum-told

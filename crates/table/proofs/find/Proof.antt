@@ -3,7 +3,7 @@ use mathlib.Core.Path.{_≡_, ap, _∙_}
 use Prim.Native.Nat.{ℕ, _+_, _*_, _/_, _%_}
 use native.Mathlib.Omega.{arith}
 use borrow.Author.Needs.{needs}
-use Rattle.table.specs.Find.{find-row}
+use Rattle.table.specs.Find.{find-row, with-shape}
 use Rattle.table.proofs.find.Statement.{statement}
 use Rattle.table.proofs.find.Tie as tie
 
@@ -25,7 +25,7 @@ returns c =
     let k = s .args .index * 256 + c .before .to-u32 .result in
     let i : k / 256 ≡ s .args .index = omega (arith, c .before .to-u32 .ensures) in
     let b : k % 256 ≡ s .args .sub = omega (arith, c .before .to-u32 .ensures) in
-    c .find-key .ensures ∙ ap (λ (n : ℕ). find-row n (k % 256)) i ∙ ap (find-row (s .args .index)) b
+    c .find-key .ensures ∙ ap (λ (n : ℕ). with-shape (find-row n (k % 256))) i ∙ ap (λ (n : ℕ). with-shape (find-row (s .args .index) n)) b
 
 pub find-spec : {M : Type 1} → statement M
 find-spec = tie.close (tie.spec mul-find-key to-u32-requires add-find-key find-key-requires returns)

@@ -56,9 +56,9 @@ find-from-0-requires c κs = record { inside = omega arith; below = c .if5 .take
 returns-5 : tie.Need-returns-5
 returns-5 c = search needs
 
-found-first-requires : tie.Need-found-first-requires
+find-first-requires : tie.Need-find-first-requires
 unfolding rows key
-found-first-requires c κs = c .if5 .left
+find-first-requires c κs = c .if5 .left
 
 returns-6 : tie.Need-returns-6
 returns-6 c = search needs
@@ -82,5 +82,5 @@ find-key-spec =
     array-read-if5
     find-from-0-requires
     returns-5
-    found-first-requires
+    find-first-requires
     returns-6)
