@@ -5,6 +5,7 @@ ghost use mathlib.Core.Path.{_≡_};
 ghost use Prim.Native.Nat.{_<_};
 ghost use Rattle.table.specs.Row.{ULINT};
 ghost use Rattle.table.specs.Rows.{row-count, at-row};
+ghost use Rattle.table.specs.Rule.{rank};
 ghost use Rattle.table.specs.Columns.{shape, kind-in, access-in, nv-in, len-in};
 
 pub fn index_of(row: usize) -> u16
@@ -95,7 +96,8 @@ pub fn def_of(row: usize) -> u64
     wide::word_to_u64(columns::DEFAULT[row])
 }
 
-// The least and the greatest number that a row takes. A ULINT takes every number, so it has none here.
+// The places of the least and the greatest number that a row takes, in the order of its type. A ULINT takes every number, so it has
+// none here.
 pub struct Limits {
     pub low: u32,
     pub high: u32,
@@ -103,7 +105,7 @@ pub struct Limits {
 
 pub fn limits_of(row: usize) -> Limits
     requires { ⌜ (row < row-count) × (at-row row .kind ≡ ULINT → ⊥) ⌝ }
-    ensures { λ r. ⌜ (r .low ≡ at-row row .low) × (r .high ≡ at-row row .high) ⌝ }
+    ensures { λ r. ⌜ (r .low ≡ rank (at-row row .kind) (at-row row .low)) × (r .high ≡ rank (at-row row .kind) (at-row row .high)) ⌝ }
 {
     let pair = wide::to_usize(columns::LIMITS[row]);
     Limits {
