@@ -275,8 +275,8 @@ def row_rt(rows):
 
 
 def limit_pairs(rows):
-    """The pairs of limits that occur, no limits first, and for each row the number of its pair; a ULINT takes every number."""
-    own = [(0, 0) if row["kind"] == "ULINT" else (row["low"], row["high"]) for row in rows]
+    """The pairs of ranks of limits that occur, no limits first, and for each row the number of its pair; a ULINT takes every number."""
+    own = [(0, 0) if row["kind"] == "ULINT" else (rank(row, row["low"]), rank(row, row["high"])) for row in rows]
     pairs = list(dict.fromkeys([(0, 0)] + own))
     return pairs, [pairs.index(pair) for pair in own]
 
@@ -284,7 +284,7 @@ def limit_pairs(rows):
 def pairs_antt(rows):
     pairs, numbers = limit_pairs(rows)
     listed = lambda cells: " ∷ ".join(str(cell) for cell in cells) + " ∷ []"
-    text = """-- The limits as the code has them: few pairs of limits, and for each row the number of its pair. tools/table.py writes this
+    text = """-- The limits as the code has them: few pairs of ranks, and for each row the number of its pair. tools/table.py writes this
 -- file from docs/object-table.md. Assumes nothing.
 use mathlib.Core.List.{List, [], _∷_}
 use Prim.Native.Nat.{ℕ}
@@ -354,7 +354,7 @@ def columns_rt(rows, end):
 // defaults out of zeros.
 // NV_.. has the NV rows alone: the bit of the saved block at which each entry begins (and the last ends), and its limits as places in
 // the order of its type. NV_CUT has the bits that are looked at as a number: of a string the first 32, which its NV_LOW and NV_HIGH do
-// not refuse.
+// not refuse. MINIMUM and MAXIMUM are places in that order too.
 pub const ROWS: usize = %d;
 
 pub const NV_ROWS: usize = %d;

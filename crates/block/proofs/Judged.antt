@@ -6,7 +6,7 @@ use mathlib.Core.Path.{_≡_, refl, sym, ap, _∙_}
 use Prim.Native.Nat.{ℕ, _≤_, _<_}
 use native.Mathlib.Omega.{arith}
 use lib.Dec.{eqb, leb}
-use borrow.Author.Tests.{eq-eqb, ne-eqb, le-leb, lt-leb}
+use borrow.Author.Tests.{ne-eqb, le-leb, lt-leb}
 use Rattle.bits.proofs.Parts.{field-fits}
 use Rattle.wire.proofs.LittleLaws.{Bytes}
 use Rattle.bits.specs.Bits.{bits, field}
@@ -14,13 +14,11 @@ use Rattle.block.proofs.Entries.{number-or-string, no-code, number-narr
 use Rattle.block.proofs.Kept.{Kept}
 use Rattle.block.specs.Asked.{cut, lowest, highest, between}
 use Rattle.block.specs.Block.{row-width, within}
-use Rattle.entry.proofs.LimitsLaws.{rank-within, within-rank, within-number}
 use Rattle.entry.proofs.NumberLaws.{len-most}
-use Rattle.entry.proofs.RowLaws.{judgeable, between-finite}
-use Rattle.entry.specs.Entry.{number-len, number-verdict}
-use Rattle.entry.specs.Limits.{Patterns, kind-verdict, verdict-code}
+use Rattle.entry.proofs.RowLaws.{ranked-within, within-ranked}
+use Rattle.entry.specs.Entry.{number-len}
+use Rattle.entry.specs.Limits.{verdict-code}
 use Rattle.entry.specs.declared.limits.Verdict.{Verdict}
-use Rattle.entry.specs.declared.limits.Verdict.the-variants.{Within}
 use Rattle.table.proofs.Rules.{RowRule}
 use Rattle.table.proofs.Walks.{lt-or-ge}
 use Rattle.table.specs.Row.{Row, REAL}
@@ -37,25 +35,13 @@ module _ (r : Row) (u : RowRule r) (v : ℕ) (w : v < 4294967296) (h : r .kind �
   abbrev own : ℕ
   own = rank (r .kind) v
 
-  patterns : r .kind ≡ REAL → Patterns (r .low) (r .high) v
-  patterns e = judgeable r refl refl refl v u w e
-
   inside : low ≤ own → own ≤ high → within r v ≡ true
-  unfolding within number-verdict verdict-code rank pick
-  inside a b =
-      ap (λ (x : Verdict). eqb (verdict-code x) 0)
-      (rank-within (r .kind) (r .low) (r .high) v h patterns
-      (λ e. let p = patterns e in
-      between-finite (r .low) (r .high) v (p .lowest .short) (p .highest .short) w (u .finite-low e) (u .finite-high e)
-      (simp (eq-eqb (r .kind) REAL e) at a) (simp (eq-eqb (r .kind) REAL e) at b))
-      a b)
+  unfolding within verdict-code
+  inside a b = ap (λ (x : Verdict). eqb (verdict-code x) 0) (ranked-within r u h v (λ e. w) a b)
 
   outside : within r v ≡ true → (low ≤ own) × (own ≤ high)
-  unfolding within number-verdict
-  outside e =
-      let n : kind-verdict (r .kind) (r .low) (r .high) v ≡ Within = no-code _ e in
-      within-rank (r .kind) (r .low) (r .high) v h patterns
-      (λ q. within-number (r .low) (r .high) v (ap (λ (k : ℕ). kind-verdict k (r .low) (r .high) v) (sym q) ∙ n)) n
+  unfolding within
+  outside e = within-ranked r u h v (λ q. w) (no-code _ e)
 
   judged : between low high own ≡ within r v
   unfolding between

@@ -1,8 +1,8 @@
--- What `plainly-within` says: patterns up to that of 1500 are within. Assumes nothing.
+-- Levels by the ranks of 0 and 1500, and what `plainly-within` says: patterns up to that of 1500 are within. Assumes nothing.
 use mathlib.Core.Bool.{true, _&&_, and-eq-true-iff}
 use mathlib.Core.Path.{_≡_, refl}
 use mathlib.Core.List.{List}
-use Prim.Native.Nat.{ℕ, _≤_}
+use Prim.Native.Nat.{ℕ, _<_, _≤_}
 use native.Mathlib.Omega.{arith}
 use lib.Dec.{leb}
 use lib.ListN.{getD}
@@ -10,19 +10,24 @@ use borrow.Author.Tests.{leb-true, lt-ltb}
 use Rattle.bits.specs.Bits.{bits, field}
 use Rattle.table.specs.Row.{REAL}
 use Rattle.table.specs.Rule.{pick, rank, real-rank}
-use Rattle.entry.specs.Limits.{Patterns, Ordered}
+use Rattle.entry.specs.Ranks.{rank-verdict}
 use Rattle.entry.specs.declared.limits.Verdict.{Verdict}
 use Rattle.entry.specs.declared.limits.Verdict.the-variants.{Within, NotANumber, Above, Below}
-use Rattle.entry.proofs.LimitsLaws.{rank-within}
+use Rattle.entry.proofs.LimitsLaws.{Patterns, by-ranks, rank-within}
 use Rattle.card.specs.Card.{point-1, point-2, fields-of, level-verdict, layout-verdict, first-bad, point-verdict, plainly-within, card-verdict}
+
+level-patterns : (v : ℕ) → v < 4294967296 → Patterns 0 0x44BB8000 v
+level-patterns v h =
+    record { lowest = record { short = omega arith; number = omega arith }; highest = record { short = omega arith; number = omega arith }; short = h }
+
+pub level-ranked : (v : ℕ) → v < 4294967296 → rank-verdict REAL 0x80000000 0xC4BB8000 v ≡ level-verdict v
+unfolding level-verdict rank real-rank pick
+level-ranked v h = by-ranks REAL 0 0x44BB8000 v (λ e. level-patterns v h)
 
 level-within : (v : ℕ) → v ≤ 0x44BB8000 → level-verdict v ≡ Within
 unfolding level-verdict rank real-rank pick
 level-within v h =
-    let z : Ordered 0 = record { short = omega arith; number = omega arith } in
-    let m : Ordered 0x44BB8000 = record { short = omega arith; number = omega arith } in
-    let p : Patterns 0 0x44BB8000 v = record { lowest = z; highest = m; short = omega arith } in
-    rank-within REAL 0 0x44BB8000 v (omega arith) (λ e. p) (λ e. omega arith) (rw (lt-ltb v 2147483648 (omega arith)) (omega arith)) (rw (lt-ltb v 2147483648 (omega arith)) (omega arith))
+    rank-within REAL 0 0x44BB8000 v (omega arith) (λ e. level-patterns v (omega arith)) (λ e. omega arith) (rw (lt-ltb v 2147483648 (omega arith)) (omega arith)) (rw (lt-ltb v 2147483648 (omega arith)) (omega arith))
 
 within-all : (a b c d : ℕ) → leb a 0x44BB8000 && (leb b 0x44BB8000 && (leb c 0x44BB8000 && leb d 0x44BB8000)) ≡ true
     → first-bad (level-verdict a) (first-bad (level-verdict b) (first-bad (level-verdict c) (level-verdict d))) ≡ Within

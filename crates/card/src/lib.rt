@@ -163,11 +163,11 @@ fn judge_layout(v: u32) -> Verdict
     Verdict::NotANumber
 }
 
-// 5 is REAL, and 0x44BB8000 the pattern of 1500: the limits of each level and hysteresis in the table.
+// 5 is REAL, and 0x80000000 and 0xC4BB8000 the ranks of 0 and 1500: the limits of each level and hysteresis in the table.
 fn judge_level(v: u32) -> Verdict
     ensures { λ r. ⌜ r ≡ level-verdict v ⌝ }
 {
-    entry::limits::judge_number(5, 0, 0x44BB8000, v)
+    entry::limits::judge_number(5, 0x80000000, 0xC4BB8000, v)
 }
 
 fn first(a: Verdict, b: Verdict) -> Verdict

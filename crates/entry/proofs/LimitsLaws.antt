@@ -8,31 +8,40 @@ use native.Mathlib.Omega.{arith}
 use lib.Dec.{ltb}
 use lib.Ieee.{binary32, isNan, ofBits}
 use lib.Ieee.Bits.{nanBits-is, nanBits-above}
-use borrow.Author.Tests.{lt-ltb, le-ltb, eq-eqb, ne-eqb, ltb-false}
+use borrow.Author.Tests.{lt-ltb, le-ltb, le-leb, lt-leb, eq-eqb, ne-eqb, ltb-false}
 use Rattle.table.specs.Row.{REAL}
 use Rattle.table.specs.Rule.{pick, rank, real-rank}
-use Rattle.entry.specs.Limits.{Patterns, first-fault, whole-verdict, real-verdict, by-kind, kind-verdict}
+use Rattle.table.proofs.Walks.{lt-or-ge}
+use Rattle.entry.specs.Limits.{first-fault, whole-verdict, real-verdict, by-kind, kind-verdict}
+use Rattle.entry.specs.Ranks.{rank-verdict}
 use Rattle.entry.specs.declared.limits.Verdict.the-variants.{Within, NotANumber}
 use Rattle.entry.proofs.Real.{magnitude, real-lt}
 
+-- 32 bits that are no NaN's
+pub record Ordered (b : ℕ) : Type 0 where
+  pub short : b < 4294967296
+  pub number : magnitude b ≤ 2139095040
+
+-- what is asked of a REAL's limits and of its number
+pub record Patterns (low high v : ℕ) : Type 0 where
+  pub lowest : Ordered low
+  pub highest : Ordered high
+  pub short : v < 4294967296
+
 -- a pattern is a NaN's where its magnitude is above the infinity's
-pub nan-is : (b : ℕ) → isNan (ofBits binary32 b) ≡ ltb 2139095040 (magnitude b)
+nan-is : (b : ℕ) → isNan (ofBits binary32 b) ≡ ltb 2139095040 (magnitude b)
 nan-is b = sym (nanBits-is binary32 b) ∙ nanBits-above binary32 b
 
-module _ (low high v : ℕ) (p : Patterns low high v) where
-  pub real-nan : 2139095040 < magnitude v → NotANumber ≡ real-verdict low high v
-  unfolding real-verdict first-fault
-  real-nan l = sym (simp (nan-is v, lt-ltb 2139095040 (magnitude v) l))
-
-  -- a REAL that is a number is judged by its rank
-  pub by-rank : (a b c : ℕ) → magnitude v ≤ 2139095040
-      → a ≡ rank REAL low → b ≡ rank REAL high → c ≡ rank REAL v → whole-verdict a b c ≡ real-verdict low high v
-  unfolding whole-verdict real-verdict rank pick
-  by-rank a b c g ea eb ec =
-      let w : v < 4294967296 = p .short in
-      let l = p .lowest in
-      let h = p .highest in
-      sym (simp (nan-is v, le-ltb 2139095040 (magnitude v) g, real-lt high v (h .short) w (h .number) g, real-lt v low w (l .short) g (l .number), ea, eb, ec))
+-- a REAL is judged by the ranks, if it is a number
+real-by-ranks : (low high v : ℕ) → Patterns low high v
+    → first-fault (isNan (ofBits binary32 v)) (ltb (real-rank high) (real-rank v)) (ltb (real-rank v) (real-rank low)) ≡ real-verdict low high v
+unfolding real-verdict first-fault
+real-by-ranks low high v p =
+    let l = p .lowest in
+    let h = p .highest in
+    ⊎-elim (λ n. simp (nan-is v, lt-ltb 2139095040 (magnitude v) n))
+    (λ g. simp (real-lt high v (h .short) (p .short) (h .number) g, real-lt v low (p .short) (l .short) g (l .number)))
+    (lt-or-ge 2139095040 (magnitude v))
 
 -- a verdict by kind
 module _ (k low high v : ℕ) where
@@ -40,7 +49,7 @@ module _ (k low high v : ℕ) where
   unfolding kind-verdict by-kind
   kind-whole h = simp (lt-ltb k REAL h)
 
-  pub kind-real : k ≡ REAL → real-verdict low high v ≡ kind-verdict k low high v
+  kind-real : k ≡ REAL → real-verdict low high v ≡ kind-verdict k low high v
   unfolding kind-verdict by-kind
   kind-real h = simp (le-ltb k REAL (omega arith), eq-eqb k REAL h)
 
@@ -48,55 +57,57 @@ module _ (k low high v : ℕ) where
   unfolding kind-verdict by-kind
   kind-none h = simp (le-ltb k REAL (omega arith), ne-eqb k REAL (λ e. omega arith))
 
+-- a verdict by limits that are ranks
+module _ (k low high v : ℕ) where
+  pub rank-nan : k ≡ REAL → 2139095040 < magnitude v → NotANumber ≡ rank-verdict k low high v
+  unfolding rank-verdict first-fault
+  rank-nan e n = simp (le-leb k REAL (omega arith), eq-eqb k REAL e, nan-is v, lt-ltb 2139095040 (magnitude v) n)
+
+  pub rank-number : k ≤ REAL → (k ≡ REAL → magnitude v ≤ 2139095040) → whole-verdict low high (rank k v) ≡ rank-verdict k low high v
+  unfolding rank-verdict whole-verdict
+  rank-number h n =
+      ⊎-elim (λ e. simp (le-leb k REAL h, eq-eqb k REAL e, nan-is v, le-ltb 2139095040 (magnitude v) (n e)))
+      (λ l. simp (le-leb k REAL h, ne-eqb k REAL (λ e. omega arith)))
+      (eq-or-lt-of-le h)
+
+  pub rank-none : REAL < k → Within ≡ rank-verdict k low high v
+  unfolding rank-verdict
+  rank-none h = simp (lt-leb k REAL h)
+
+-- THE LAW: limits that are ranks judge as the limits that they are the ranks of
+pub by-ranks : (k low high v : ℕ) → (k ≡ REAL → Patterns low high v) → rank-verdict k (rank k low) (rank k high) v ≡ kind-verdict k low high v
+unfolding rank-verdict whole-verdict rank pick
+by-ranks k low high v p =
+    ⊎-elim (λ h. sym (rank-none k _ _ v h) ∙ kind-none k low high v h)
+    (λ g. ⊎-elim
+    (λ e. simp (le-leb k REAL g, eq-eqb k REAL e) (real-by-ranks low high v (p e) ∙ kind-real k low high v e))
+    (λ l. simp (le-leb k REAL g, ne-eqb k REAL (λ e. omega arith)) (kind-whole k low high v l))
+    (eq-or-lt-of-le g))
+    (lt-or-ge REAL k)
+
 -- `Within` says that none of the three faults is there
-no-fault : (n a b : Bool) → first-fault n a b ≡ Within → (n ≡ false) × (a ≡ false) × (b ≡ false)
+no-fault : (n a b : Bool) → first-fault n a b ≡ Within → (a ≡ false) × (b ≡ false)
 unfolding first-fault
 no-fault true a b e = absurd (let z : _≡_ {A = ℕ} 0 1 = cc in omega arith)
 no-fault false true b e = absurd (let z : _≡_ {A = ℕ} 0 1 = cc in omega arith)
 no-fault false false true e = absurd (let z : _≡_ {A = ℕ} 0 1 = cc in omega arith)
-no-fault false false false e = (refl, refl, refl)
-
-whole-within : (low high v : ℕ) → whole-verdict low high v ≡ Within → (low ≤ v) × (v ≤ high)
-unfolding whole-verdict
-whole-within low high v e =
-    let f = no-fault false (ltb high v) (ltb v low) e in
-    (ltb-false v low (f .2), ltb-false high v (f .1))
+no-fault false false false e = (refl, refl)
 
 pub whole-between : (low high v : ℕ) → low ≤ v → v ≤ high → whole-verdict low high v ≡ Within
 unfolding whole-verdict first-fault
 whole-between low high v a b = simp (le-ltb high v b, le-ltb v low a)
 
--- what `Within` says of a whole number
-module _ (k low high v : ℕ) (h : k < REAL) where
-  pub within-low : kind-verdict k low high v ≡ Within → low ≤ v
-  within-low e = whole-within low high v (kind-whole k low high v h ∙ e) .0
-
-  pub within-high : kind-verdict k low high v ≡ Within → v ≤ high
-  within-high e = whole-within low high v (kind-whole k low high v h ∙ e) .1
-
--- what it says of a REAL: it is no NaN
-pub within-number : (low high v : ℕ) → kind-verdict REAL low high v ≡ Within → magnitude v ≤ 2139095040
-unfolding real-verdict
-within-number low high v e =
-    ltb-false 2139095040 (magnitude v) (sym (nan-is v) ∙ no-fault _ _ _ (kind-real REAL low high v refl ∙ e) .0)
-
--- Numbers that are no NaN's are judged by their ranks, of whatever kind.
-pub verdict-by-rank : (k low high v : ℕ) → k ≤ REAL → (k ≡ REAL → Patterns low high v) → (k ≡ REAL → magnitude v ≤ 2139095040)
-    → kind-verdict k low high v ≡ whole-verdict (rank k low) (rank k high) (rank k v)
-unfolding rank pick
-verdict-by-rank k low high v h p n =
-    ⊎-elim
-    (λ e. sym (simp (eq-eqb k REAL e) (by-rank low high v (p e) _ _ _ (n e) refl refl refl ∙ kind-real k low high v e)))
-    (λ l. sym (simp (ne-eqb k REAL (λ e. omega arith)) (kind-whole k low high v l)))
-    (eq-or-lt-of-le h)
-
 -- So a number whose rank lies between those of the limits is within them, and a number within them has such a rank.
-module _ (k low high v : ℕ) (h : k ≤ REAL) (p : k ≡ REAL → Patterns low high v) (n : k ≡ REAL → magnitude v ≤ 2139095040) where
-  pub rank-within : rank k low ≤ rank k v → rank k v ≤ rank k high → kind-verdict k low high v ≡ Within
-  rank-within a b = verdict-by-rank k low high v h p n ∙ whole-between (rank k low) (rank k high) (rank k v) a b
+module _ (k low high v : ℕ) (h : k ≤ REAL) (p : k ≡ REAL → Patterns low high v) where
+  pub rank-within : (k ≡ REAL → magnitude v ≤ 2139095040) → rank k low ≤ rank k v → rank k v ≤ rank k high → kind-verdict k low high v ≡ Within
+  rank-within n a b =
+      sym (by-ranks k low high v p) ∙ sym (rank-number k (rank k low) (rank k high) v h n) ∙ whole-between (rank k low) (rank k high) (rank k v) a b
 
   pub within-rank : kind-verdict k low high v ≡ Within → (rank k low ≤ rank k v) × (rank k v ≤ rank k high)
-  within-rank e = whole-within (rank k low) (rank k high) (rank k v) (sym (verdict-by-rank k low high v h p n) ∙ e)
+  unfolding rank-verdict
+  within-rank e =
+      let f = no-fault _ _ _ (simp (le-leb k REAL h) at (by-ranks k low high v p ∙ e)) in
+      (ltb-false (rank k v) (rank k low) (f .1), ltb-false (rank k high) (rank k v) (f .0))
 
 -- ---- ranks, by the tests of the code
 

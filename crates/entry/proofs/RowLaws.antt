@@ -14,10 +14,10 @@ use Rattle.table.specs.Rule.{pick, held, rank, real-rank}
 use Rattle.table.proofs.Walks.{lt-or-ge}
 use Rattle.table.proofs.Rules.{RowRule}
 use Rattle.table.proofs.Widths.{ulint-width, real-width}
-use Rattle.entry.specs.Limits.{Patterns, kind-verdict}
+use Rattle.entry.specs.Ranks.{rank-verdict}
 use Rattle.entry.specs.Entry.{held-by, default-of, number-len, number-verdict, row-verdict}
 use Rattle.entry.specs.declared.limits.Verdict.the-variants.{Within}
-use Rattle.entry.proofs.LimitsLaws.{kind-whole, kind-none, whole-between, rank-within, within-high}
+use Rattle.entry.proofs.LimitsLaws.{Patterns, kind-whole, kind-none, by-ranks, whole-between, rank-within, within-rank, rank-other}
 use Rattle.entry.proofs.NumberLaws.{number-long}
 
 -- ---- widths
@@ -56,14 +56,12 @@ real-patterns r u v e h =
       short = h;
     }
 
--- for a type and limits that the code has read: what `judge_number` asks, and what its answer says of the row
-module _ (r : Row) {k l h : ℕ} (kind : k ≡ r .kind) (low : l ≡ r .low) (high : h ≡ r .high) (v : ℕ) where
-  pub judgeable : RowRule r → v < 4294967296 → k ≡ REAL → Patterns l h v
-  judgeable u short e = rw (low, high) (real-patterns r u v (sym kind ∙ e) short)
-
-  pub verdict-from : kind-verdict k l h v ≡ number-verdict r v
-  unfolding number-verdict
-  verdict-from = rw (kind, low, high)
+-- by a type and ranks of limits that the code has read
+pub verdict-from : (r : Row) → RowRule r → {k l h : ℕ} → k ≡ r .kind → l ≡ rank (r .kind) (r .low) → h ≡ rank (r .kind) (r .high)
+    → (v : ℕ) → v < 4294967296 → rank-verdict k l h v ≡ number-verdict r v
+unfolding number-verdict
+verdict-from r u kind low high v short =
+    rw (kind, low, high) (by-ranks (r .kind) (r .low) (r .high) v (λ e. real-patterns r u v e short))
 
 -- a row that is no number is within, whatever number is asked
 pub no-number : (r : Row) (v : ℕ) → REAL < r .kind → Within ≡ number-verdict r v
@@ -101,10 +99,10 @@ module _ (r : Row) (u : RowRule r) (bytes : List ℕ) (long : length bytes ≡ r
   all-within b g d =
       ⊎-elim (λ l. ulint-within b (omega arith)) (λ n. no-number r _ (omega arith)) (lt-or-ge k REAL)
 
--- ---- the default
+-- ---- ranks
 
 -- 32 bits between two finite patterns, by rank, are no NaN's
-pub between-finite : (low high v : ℕ) → low < 4294967296 → high < 4294967296 → v < 4294967296 → low % 2147483648 < 2139095040 → high % 2147483648 < 2139095040
+between-finite : (low high v : ℕ) → low < 4294967296 → high < 4294967296 → v < 4294967296 → low % 2147483648 < 2139095040 → high % 2147483648 < 2139095040
     → real-rank low ≤ real-rank v → real-rank v ≤ real-rank high → v % 2147483648 ≤ 2139095040
 unfolding real-rank pick
 between-finite low high v l h w fl fh a b =
@@ -119,18 +117,26 @@ between-finite low high v l h w fl fh a b =
     (lt-or-ge low 2147483648))
     (lt-or-ge v 2147483648)
 
-pub default-within : (r : Row) → RowRule r → r .kind ≤ REAL → number-verdict r (r .def) ≡ Within
-unfolding number-verdict rank pick
+-- a number is within the limits of its row where its rank lies between theirs
+module _ (r : Row) (u : RowRule r) (h : r .kind ≤ REAL) (v : ℕ) (short : r .kind ≡ REAL → v < 4294967296) where
+  pub ranked-within : rank (r .kind) (r .low) ≤ rank (r .kind) v → rank (r .kind) v ≤ rank (r .kind) (r .high) → number-verdict r v ≡ Within
+  unfolding number-verdict rank pick
+  ranked-within a b =
+      rank-within (r .kind) (r .low) (r .high) v h (λ e. real-patterns r u v e (short e))
+      (λ e. let p = real-patterns r u v e (short e) in
+      between-finite (r .low) (r .high) v (p .lowest .short) (p .highest .short) (short e) (u .finite-low e) (u .finite-high e)
+      (simp (eq-eqb (r .kind) REAL e) at a) (simp (eq-eqb (r .kind) REAL e) at b))
+      a b
+
+  pub within-ranked : number-verdict r v ≡ Within → (rank (r .kind) (r .low) ≤ rank (r .kind) v) × (rank (r .kind) v ≤ rank (r .kind) (r .high))
+  unfolding number-verdict
+  within-ranked e = within-rank (r .kind) (r .low) (r .high) v h (λ q. real-patterns r u v q (short q)) e
+
+-- ---- the default
+
+default-within : (r : Row) → RowRule r → r .kind ≤ REAL → number-verdict r (r .def) ≡ Within
 default-within r u h =
-    rank-within (r .kind) (r .low) (r .high) (r .def) h
-    (λ e. real-patterns r u (r .def) e (short e))
-    (λ e. let p = real-patterns r u (r .def) e (short e) in
-    between-finite (r .low) (r .high) (r .def) (p .lowest .short) (p .highest .short) (short e) (u .finite-low e) (u .finite-high e)
-    (simp (eq-eqb (r .kind) REAL e) at (u .def-low)) (simp (eq-eqb (r .kind) REAL e) at (u .def-high)))
-    (u .def-low) (u .def-high)
-  where
-    short : r .kind ≡ REAL → r .def < 4294967296
-    short e = rw (real-width r u e) at (u .def-fits (omega arith))
+    ranked-within r u h (r .def) (λ e. rw (real-width r u e) at (u .def-fits h)) (u .def-low) (u .def-high)
 
 -- so the bytes of the default are within, whatever the row
 pub default-judged : (r : Row) → RowRule r → row-verdict r (default-of r) ≡ Within
@@ -147,4 +153,6 @@ default-judged r u =
 -- a BOOL row that is within its limits holds 0 or 1
 pub bool-within : (r : Row) (v : ℕ) → r .kind ≡ BOOL → r .high ≤ 1 → number-verdict r v ≡ Within → v ≤ 1
 unfolding number-verdict
-bool-within r v k h e = let w = within-high (r .kind) (r .low) (r .high) v (omega arith) e in omega arith
+bool-within r v k h e =
+    let w = within-rank (r .kind) (r .low) (r .high) v (omega arith) (λ q. absurd (omega arith)) e .1 in
+    omega (arith, rank-other (r .kind) v (λ q. omega arith), rank-other (r .kind) (r .high) (λ q. omega arith))

@@ -1,6 +1,6 @@
 -- What a number is to the limits of its row (document 01, "Order of checks": "limits: not a number or wrong layout 06090030, above 06090031, below 06090032").
 use mathlib.Core.Bool.{Bool, true, false}
-use Prim.Native.Nat.{ℕ, _%_, _<_, _≤_}
+use Prim.Native.Nat.{ℕ}
 use lib.Dec.{eqb, ltb}
 use lib.Ieee.{binary32, lt, isNan, ofBits}
 use Rattle.table.specs.Row.{REAL}
@@ -38,14 +38,3 @@ by-kind false false low high v = Within
 
 unfoldable pub kind-verdict : ℕ → ℕ → ℕ → ℕ → Verdict
 kind-verdict kind low high v = by-kind (ltb kind REAL) (eqb kind REAL) low high v
-
--- 32 bits that are no NaN's
-pub record Ordered (b : ℕ) : Type 0 where
-  pub short : b < 4294967296
-  pub number : b % 2147483648 ≤ 2139095040
-
--- what is asked of a REAL's limits and of its number
-pub record Patterns (low high v : ℕ) : Type 0 where
-  pub lowest : Ordered low
-  pub highest : Ordered high
-  pub short : v < 4294967296

@@ -1,6 +1,7 @@
-// A number against the limits of its row.
+// A number against the limits of its row, which are ranks: their places in the order of the type.
 ghost use mathlib.Core.Path.{_≡_};
-ghost use Rattle.entry.specs.Limits.{Patterns, whole-verdict, real-verdict, kind-verdict, verdict-code};
+ghost use Rattle.entry.specs.Limits.{whole-verdict, verdict-code};
+ghost use Rattle.entry.specs.Ranks.{rank-verdict};
 ghost use Rattle.table.specs.Row.{REAL};
 ghost use Rattle.table.specs.Rule.{rank};
 
@@ -50,19 +51,17 @@ fn judge_whole(low: u32, high: u32, v: u32) -> Verdict
 
 // A REAL is judged on its bit pattern: above the pattern of infinity, without the sign, stand the NaNs.
 fn judge_real(low: u32, high: u32, v: u32) -> Verdict
-    requires { ⌜ Patterns low high v ⌝ }
-    ensures { λ r. ⌜ r ≡ real-verdict low high v ⌝ }
+    ensures { λ r. ⌜ r ≡ rank-verdict REAL low high v ⌝ }
 {
     if 2139095040 < v % 2147483648 {
         return Verdict::NotANumber;
     }
-    judge_whole(rank_of(5, low), rank_of(5, high), rank_of(5, v))
+    judge_whole(low, high, rank_of(5, v))
 }
 
 // Any number of a row against that row's kind and limits.
 pub fn judge_number(kind: u8, low: u32, high: u32, v: u32) -> Verdict
-    requires { ⌜ (kind ≡ REAL → Patterns low high v) ⌝ }
-    ensures { λ r. ⌜ r ≡ kind-verdict kind low high v ⌝ }
+    ensures { λ r. ⌜ r ≡ rank-verdict kind low high v ⌝ }
 {
     match kind {
         0..=4 => judge_whole(low, high, v),

@@ -4,21 +4,10 @@ use io::print_decimal;
 use io::write_all;
 use libc::STDOUT_FILENO;
 use table::field;
+use wire::wide;
 ghost use mathlib.Core.Path.{_≡_};
 ghost use Prim.Native.Nat.{_≤_, _<_};
 ghost use Rattle.table.specs.Rows.{row-count, at-row};
-
-fn wide(x: u8) -> u64 {
-    x as u64
-}
-
-fn wide16(x: u16) -> u64 {
-    x as u64
-}
-
-fn wide32(x: u32) -> u64 {
-    x as u64
-}
 
 fn digit(n: u8) -> u8
     requires { ⌜ n < 16 ⌝ }
@@ -73,6 +62,18 @@ fn print_access(access: u8, nv: u8) {
     }
 }
 
+// The number at a place in the order of its type: a REAL's bit pattern.
+fn number_at(kind: u8, rank: u32) -> u64 {
+    let place = wide::word_to_u64(rank);
+    if kind != 5 {
+        return place;
+    }
+    if place < 2147483648 {
+        return 4294967296 - place;
+    }
+    place - 2147483648
+}
+
 // The least and the greatest number of a row. A ULINT takes every number.
 fn print_limits(row: usize, kind: u8, digits: usize)
     requires { ⌜ (row < row-count) × (kind ≡ at-row row .kind) × (digits ≤ 16) ⌝ }
@@ -83,9 +84,9 @@ fn print_limits(row: usize, kind: u8, digits: usize)
     }
     let both = field::limits_of(row);
     write_all(STDOUT_FILENO, b" ");
-    print_hex(wide32(both.low), digits);
+    print_hex(number_at(kind, both.low), digits);
     write_all(STDOUT_FILENO, b" ");
-    print_hex(wide32(both.high), digits);
+    print_hex(number_at(kind, both.high), digits);
     write_all(STDOUT_FILENO, b" ");
 }
 
@@ -105,9 +106,9 @@ fn print_number(row: usize, kind: u8, len: usize)
 fn print_row(row: usize)
     requires { ⌜ row < row-count ⌝ }
 {
-    print_hex(wide16(field::index_of(row)), 4);
+    print_hex(wide::pair_to_usize(field::index_of(row)) as u64, 4);
     write_all(STDOUT_FILENO, b" ");
-    print_hex(wide(field::sub_of(row)), 2);
+    print_hex(wide::to_u64(field::sub_of(row)), 2);
     let kind = field::kind_of(row);
     print_kind(kind);
     print_access(field::access_of(row), field::nv_of(row));

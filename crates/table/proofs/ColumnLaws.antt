@@ -9,7 +9,7 @@ use borrow.Author.Tests.{ne-eqb}
 use Rattle.table.specs.Row.{Row, no-row, ULINT}
 use Rattle.table.specs.Rows.{rows, row-count, at-row}
 use Rattle.table.specs.Columns.{column, placing}
-use Rattle.table.specs.Rule.{pick}
+use Rattle.table.specs.Rule.{pick, rank, real-rank}
 use Rattle.table.specs.Walk.{every}
 use Rattle.table.specs.Pairs.{pairs, minima, maxima, pair-count}
 use Rattle.table.proofs.Table.{rows-length}
@@ -74,16 +74,17 @@ module _ (row : ℕ) (there : row < row-count) {q p : ℕ} (e : q ≡ placing ro
   unfolding placing
   pair-told h = omega (arith, e, h, place-below row there)
 
--- the limits of a row are those of its pair, but for a ULINT's
-pub low-by-pair : (k : ℕ) → getD minima (getD pairs k 0) 0 ≡ at-row k .low
-unfolding rows pairs minima
-low-by-pair k = sym (List·getD-map (λ (p : ℕ). getD minima p 0) pairs k 0) ∙ List·getD-map (λ (r : Row). r .low) rows k no-row
+-- the ranks of a row's limits are those of its pair, but for a ULINT's
+pub low-by-pair : (k : ℕ) → getD minima (getD pairs k 0) 0 ≡ rank (at-row k .kind) (at-row k .low)
+unfolding rows pairs minima pick real-rank rank
+low-by-pair k =
+    sym (List·getD-map (λ (p : ℕ). getD minima p 0) pairs k 0) ∙ List·getD-map (λ (r : Row). rank (r .kind) (r .low)) rows k no-row
 
-pub high-by-pair : (k : ℕ) → (at-row k .kind ≡ ULINT → ⊥) → getD maxima (getD pairs k 0) 0 ≡ at-row k .high
-unfolding rows pairs maxima pick
+pub high-by-pair : (k : ℕ) → (at-row k .kind ≡ ULINT → ⊥) → getD maxima (getD pairs k 0) 0 ≡ rank (at-row k .kind) (at-row k .high)
+unfolding rows pairs maxima pick real-rank rank
 high-by-pair k d =
     sym (List·getD-map (λ (p : ℕ). getD maxima p 0) pairs k 0)
-    ∙ List·getD-map (λ (r : Row). pick (eqb (r .kind) ULINT) 0 (r .high)) rows k no-row
+    ∙ List·getD-map (λ (r : Row). pick (eqb (r .kind) ULINT) 0 (rank (r .kind) (r .high))) rows k no-row
     ∙ rw (ne-eqb (at-row k .kind) ULINT d)
 
 pub pair-there : (k : ℕ) → k < row-count → getD pairs k 0 < pair-count

@@ -5,7 +5,7 @@
 // defaults out of zeros.
 // NV_.. has the NV rows alone: the bit of the saved block at which each entry begins (and the last ends), and its limits as places in
 // the order of its type. NV_CUT has the bits that are looked at as a number: of a string the first 32, which its NV_LOW and NV_HIGH do
-// not refuse.
+// not refuse. MINIMUM and MAXIMUM are places in that order too.
 pub const ROWS: usize = 129;
 
 pub const NV_ROWS: usize = 38;
@@ -547,9 +547,9 @@ pub const MINIMUM: [u32; 14] = [
     0,
     0,
     0,
-    4286578687,
+    8388609,
     1,
-    0,
+    2147483648,
     2148405504,
     2148406272,
     2148471040,
@@ -564,9 +564,9 @@ pub const MAXIMUM: [u32; 14] = [
     255,
     65535,
     1,
-    2139095039,
+    4286578687,
     2,
-    1153138688,
+    3300622336,
     2148405504,
     2148406272,
     2148471040,

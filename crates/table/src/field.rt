@@ -6,7 +6,7 @@ ghost use mathlib.Core.Path.{_≡_};
 ghost use Prim.Native.Nat.{_<_};
 ghost use Rattle.table.specs.Row.{ULINT};
 ghost use Rattle.table.specs.Rows.{row-count, at-row};
-ghost use Rattle.table.specs.Rule.{key};
+ghost use Rattle.table.specs.Rule.{key, rank};
 ghost use Rattle.table.specs.Columns.{shape, placing, kind-in, access-in, nv-in, len-in};
 
 // Index and subindex of a row, as one number.
@@ -149,7 +149,8 @@ pub fn def_of(row: usize) -> u64
     wide::word_to_u64(columns::DEFAULT[row])
 }
 
-// The least and the greatest number that a row takes. A ULINT takes every number, so it has none here.
+// The places of the least and the greatest number that a row takes, in the order of its type. A ULINT takes every number, so it has
+// none here.
 pub struct Limits {
     pub low: u32,
     pub high: u32,
@@ -157,7 +158,7 @@ pub struct Limits {
 
 pub fn limits_of(row: usize) -> Limits
     requires { ⌜ (row < row-count) × (at-row row .kind ≡ ULINT → ⊥) ⌝ }
-    ensures { λ r. ⌜ (r .low ≡ at-row row .low) × (r .high ≡ at-row row .high) ⌝ }
+    ensures { λ r. ⌜ (r .low ≡ rank (at-row row .kind) (at-row row .low)) × (r .high ≡ rank (at-row row .kind) (at-row row .high)) ⌝ }
 {
     let pair = wide::pair_to_usize(placing_of(row) / 1024);
     Limits {

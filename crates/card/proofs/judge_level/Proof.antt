@@ -1,5 +1,6 @@
--- `judge_level` is `level-verdict`: the limits are those of document 01.
-use Rattle.card.specs.Card.{level-verdict}
+-- `judge_level` is `level-verdict`: the limits are the ranks of document 01's.
+use mathlib.Core.Path.{_∙_}
+use Rattle.card.proofs.Judged.{level-ranked}
 use borrow.Author.Needs.{needs}
 use Rattle.card.proofs.judge_level.Statement.{statement}
 use Rattle.card.proofs.judge_level.Tie as tie
@@ -8,8 +9,7 @@ judge-number-requires : tie.Need-judge-number-requires
 judge-number-requires c κs = search needs
 
 returns : tie.Need-returns
-unfolding level-verdict
-returns c = search needs
+returns c = let b = c .before in c .judge-number .ensures ∙ level-ranked (b .args .v) (b .fits .v .fits)
 
 pub judge-level-spec : {M : Type 1} → statement M
 judge-level-spec = tie.close (tie.spec judge-number-requires returns)

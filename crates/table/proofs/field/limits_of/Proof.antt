@@ -1,4 +1,4 @@
--- `table::field::limits_of`: the row's pair of limits has the fields `low` and `high`. Assumes nothing.
+-- `table::field::limits_of`: the row's pair has the ranks of `low` and `high`. Assumes nothing.
 use mathlib.Core.Path.{ap, _∙_}
 use Prim.Native.Nat.{ℕ, _<_}
 use lib.ListN.{getD}
