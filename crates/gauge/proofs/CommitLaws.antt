@@ -139,6 +139,10 @@ module _ (v b : List ℕ) where
 
 -- ---- the value of a row
 
+-- what is neither stored nor the card is a command word
+pub word-left : (row kind : ℕ) → row < row-count → kind ≡ at-row row .kind → 7 ≤ kind → (kind ≡ CARD → ⊥) → at-row row .kind ≡ COMMAND
+word-left row kind h e l n = omega (arith, row-rule row h .kind-known, e, l, n)
+
 module _ (r : Row) (values : List ℕ) (k : ℕ) (kind : k ≡ r .kind) where
   pub read-card : {x : List ℕ} → k ≡ CARD → x ≡ splice (replicate 64 0) 0 (card-of values) → x ≡ splice (replicate 64 0) 0 (value-of r values)
   unfolding value-of

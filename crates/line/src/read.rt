@@ -1,5 +1,6 @@
 // Reads on a line: openings and parts.
 use crate::reply;
+use command::word;
 use gate::Gate;
 use sdo::Direction;
 use sdo::Key;
@@ -58,7 +59,8 @@ pub fn next_part(state: &mut [u8], at: usize, toggle: bool) -> [u8; 8]
     reply::ended(state, at, answer::no_transfer())
 }
 
-// The answer that opens a read of up to four bytes. An entry that stands in the values is shown from there, with no copy.
+// The answer that opens a read of up to four bytes. An entry that stands in the values is shown from there, with no copy; the card is
+// longer, so the rest are command words.
 fn short_answer(values: &[u8], k: Key, row: usize, kind: u8, len: usize) -> [u8; 8]
     requires { ⌜ (length (now values) ≡ 1024) × ((row < row-count) × (k ≡ keyAt row)) × (kind ≡ at-row row .kind) × (len ≡ at-row row .len) × ((1 ≤ len) × (len ≤ 4)) ⌝ }
     ensures { λ r. ⌜ r ≡ answerOf (opened k len (value-of (at-row row) (now (values .entry))) true) ⌝ }
@@ -67,7 +69,7 @@ fn short_answer(values: &[u8], k: Key, row: usize, kind: u8, len: usize) -> [u8;
         let place = table::field::place_of(row);
         return answer::opened_short(k, &values[place..place + len], len);
     }
-    let held = gauge::read::value_of(values, row, kind, len);
+    let held = word::reading(word::command_at(row));
     answer::opened_short(k, &held, len)
 }
 

@@ -1,12 +1,9 @@
 -- `gauge::read::value_of`: each return is one law, given what the calls ensure. Assumes nothing.
-use mathlib.Core.Path.{_≡_, sym, _∙_}
-use Prim.Native.Nat.{ℕ, _<_, _≤_}
+use mathlib.Core.Path.{_∙_}
 use native.Mathlib.Omega.{arith}
 use borrow.Author.Needs.{needs}
-use Rattle.table.specs.Row.{CARD, COMMAND}
-use Rattle.table.specs.Rows.{row-count, at-row}
-use Rattle.table.proofs.Table.{row-rule}
-use Rattle.gauge.proofs.CommitLaws.{read-card, read-command, read-other}
+use Rattle.table.specs.Rows.{at-row}
+use Rattle.gauge.proofs.CommitLaws.{read-card, read-command, read-other, word-left}
 use Rattle.gauge.proofs.read.value_of.Statement.{statement}
 use Rattle.gauge.proofs.read.value_of.Tie as tie
 
@@ -27,14 +24,10 @@ returns-2 c =
     let s = c .before .before .before .before in
     read-card (at-row (s .args .row)) (s .args .values .now) (s .args .kind) (s .pre .2) (c .before .if2 .taken) (c .card-of .ensures)
 
--- what is neither stored nor the card is a command word
-last : (row kind : ℕ) → row < row-count → kind ≡ at-row row .kind → 7 ≤ kind → (kind ≡ CARD → ⊥) → kind ≡ COMMAND
-last row kind h e l n = omega (arith, row-rule row h .kind-known, e, l, n)
-
 command-at-requires : tie.Need-command-at-requires
 command-at-requires c κs =
     let s = c .before .before .before in
-    (s .pre .1, sym (s .pre .2) ∙ last (s .args .row) (s .args .kind) (s .pre .1) (s .pre .2) (c .before .if1 .left) (c .if2 .left))
+    (s .pre .1, word-left (s .args .row) (s .args .kind) (s .pre .1) (s .pre .2) (c .before .if1 .left) (c .if2 .left))
 
 reading-requires : tie.Need-reading-requires
 reading-requires c κs = search needs
@@ -42,7 +35,7 @@ reading-requires c κs = search needs
 returns-3 : tie.Need-returns-3
 returns-3 c =
     let s = c .before .before .before .before .before in
-    read-command (at-row (s .args .row)) (s .args .values .now) (s .args .kind) (s .pre .2) (last (s .args .row) (s .args .kind) (s .pre .1) (s .pre .2) (c .before .before .before .if1 .left) (c .before .before .if2 .left)) (c .reading .ensures ∙ rw (c .before .command-at .ensures))
+    read-command (at-row (s .args .row)) (s .args .values .now) (s .args .kind) (s .pre .2) (s .pre .2 ∙ word-left (s .args .row) (s .args .kind) (s .pre .1) (s .pre .2) (c .before .before .before .if1 .left) (c .before .before .if2 .left)) (c .reading .ensures ∙ rw (c .before .command-at .ensures))
 
 pub value-of-spec : {M : Type 1} → statement M
 value-of-spec =
