@@ -10,28 +10,9 @@ use Rattle.bits.proofs.Parts.{field-more, byte-get, byte-put}
 use Rattle.wire.proofs.LittleLaws.{Bytes}
 use Rattle.bits.specs.Bits.{msb, bits, field}
 use Rattle.wire.proofs.SpliceLaws.{splice-then}
-use Rattle.wire.proofs.Stores.{four-bytes as bytes-of-word, four-stores as stores-of-word}
+use Rattle.wire.proofs.Stores.{four-bytes as bytes-of-word, four-stores as stores-of-word, apart-by}
 use Rattle.wire.specs.Splice.{splice}
 use Rattle.wire.specs.Little.{little, number}
-
--- ---- the bytes of a word that is turned
-
--- four digits of a little-endian word
-module _ (a b c d w : ℕ) (la : a < 256) (lb : b < 256) (lc : c < 256) (ld : d < 256) (e : w ≡ a + b * 256 + c * 65536 + d * 16777216) where
-  digit-0 : w % 256 ≡ a
-  digit-0 = omega arith
-
-  digit-1 : w / 256 % 256 ≡ b
-  digit-1 = omega arith
-
-  digit-2 : w / 65536 % 256 ≡ c
-  digit-2 = omega arith
-
-  digit-3 : w / 16777216 ≡ d
-  digit-3 = omega arith
-
-  digit-3-low : w / 16777216 % 256 ≡ d
-  digit-3-low = omega arith
 
 -- ---- reading
 
@@ -57,9 +38,9 @@ module _ (s : List ℕ) (at : ℕ) (room : at + 4 ≤ length s) where
       let b : ℕ = getD s (at + 1) 0 in
       let c : ℕ = getD s (at + 2) 0 in
       let d : ℕ = getD s (at + 3) 0 in
-      let g : w ≡ a + b * 256 + c * 65536 + d * 16777216 = e ∙ bytes-of-word s at in
+      let m = apart-by w a b c d (h at) (h (at + 1)) (h (at + 2)) (e ∙ bytes-of-word s at) in
       f
-      ∙ rw (digit-0 a b c d w (h at) (h (at + 1)) (h (at + 2)) (h (at + 3)) g, digit-1 a b c d w (h at) (h (at + 1)) (h (at + 2)) (h (at + 3)) g, digit-2 a b c d w (h at) (h (at + 1)) (h (at + 2)) (h (at + 3)) g, digit-3 a b c d w (h at) (h (at + 1)) (h (at + 2)) (h (at + 3)) g)
+      ∙ rw (m .first, m .second, m .third, m .fourth)
       (four-bytes a b c d refl (h at) refl (h (at + 1)) refl (h (at + 2)) refl (h (at + 3)))
 
 -- ---- storing
@@ -102,12 +83,9 @@ turned-put s t at v w room hv e f =
     let b : ℕ = v / 65536 % 256 in
     let c : ℕ = v / 256 % 256 in
     let d : ℕ = v % 256 in
-    let la : a < 256 = omega arith in
-    let lb : b < 256 = omega arith in
-    let lc : c < 256 = omega arith in
-    let ld : d < 256 = omega arith in
-    let g : w ≡ a + b * 256 + c * 65536 + d * 16777216 = e ∙ omega arith in
+    let m = apart-by w a b c d (omega arith) (omega arith) (omega arith) (e ∙ omega arith) in
+    let low : d % 256 ≡ d = omega arith in
     let k : splice s at (little 4 w) ≡ set (set (set (set s at a) (at + 1) b) (at + 2) c) (at + 3) d =
     sym (stores-of-word s at w room)
-    ∙ rw (digit-0 a b c d w la lb lc ld g, digit-1 a b c d w la lb lc ld g, digit-2 a b c d w la lb lc ld g, digit-3-low a b c d w la lb lc ld g) in
+    ∙ rw (m .first, m .second, m .third, m .fourth, low) in
     ap bits (f ∙ k) ∙ four-stores s at v room

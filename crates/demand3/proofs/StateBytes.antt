@@ -3,7 +3,7 @@ use Prim.Native.Nat.{ℕ, _+_, _≤_, _<_}
 use native.Mathlib.Omega.{arith}
 use mathlib.Core.Path.{_≡_, refl, sym, ap, _∙_}
 use mathlib.Core.Logic.{_⊎_, inl, inr}
-use mathlib.Core.Bool.{Bool, true, false, not, or-true}
+use mathlib.Core.Bool.{Bool, true, not, or-true}
 use mathlib.Core.List.{List, _++_, append-assoc}
 use lib.Dec.{eqb, leb}
 use lib.ListN.{length, take, drop, length-append, length-drop}
@@ -11,14 +11,16 @@ use lib.Seq.{take-at, drop-at, drop-drop, length-take-le, drop-append-le, take-a
 use borrow.Author.Tests.{le-leb}
 use Rattle.wire.specs.Splice.{splice, apart}
 use Rattle.wire.specs.Little.{little, fromLittle, number}
+use Rattle.wire.specs.Flags.{is-set, bit}
 use Rattle.wire.proofs.SpliceLaws.{part-apart}
 use Rattle.wire.proofs.LittleLaws.{length-little, number-apart}
+use Rattle.wire.proofs.FlagLaws.{set-back}
 use Rattle.trip.specs.declared.Trips.{Trips}
 use Rattle.sdo.specs.declared.Direction.{Direction}
 use Rattle.sdo.specs.declared.Direction.the-variants.{Neither, Reads, Writes}
 use Rattle.sdo.specs.declared.Transfer.{Transfer}
 use Rattle.sdo.proofs.RecordLaws.{Whole, Small}
-use Rattle.state.specs.State.{direction-of, direction-byte, bit, is-on, record-at, record-tail, record-bytes, trips-place, trips-at, trips-bytes}
+use Rattle.state.specs.State.{direction-of, direction-byte, record-at, record-tail, record-bytes, trips-place, trips-at, trips-bytes}
 
 -- ---- parts of what was written
 
@@ -61,11 +63,6 @@ direction-back Neither = refl
 direction-back Reads = refl
 direction-back Writes = refl
 
-bit-back : (b : Bool) → not (eqb (fromLittle (little 1 (bit b))) 0) ≡ b
-unfolding little fromLittle
-bit-back true = refl
-bit-back false = refl
-
 byte-back : (n : ℕ) → n < 256 → fromLittle (little 1 n) ≡ n
 unfolding little fromLittle
 byte-back n h = omega arith
@@ -92,18 +89,18 @@ module _ (s : List ℕ) (at : ℕ) (t : Transfer) (w : Whole t) (small : Small t
 
   -- LAW: the record that was written is read back
   pub record-back : record-at written at ≡ t
-  unfolding record-at is-on record-tail number little
+  unfolding record-at record-tail number little
   record-back =
       fields held-back
       (tail-back 0 2 (omega arith) ∙ word-back (t .row) (small .row-fits))
       (ap direction-of (tail-back 2 1 (omega arith)) ∙ direction-back (t .direction))
       (tail-back 3 1 (omega arith) ∙ byte-back (t .len) (small .len-fits))
       (tail-back 4 1 (omega arith) ∙ byte-back (t .place) (small .place-fits))
-      (ap (λ (n : ℕ). not (eqb n 0)) (tail-back 5 1 (omega arith)) ∙ bit-back (t .toggle))
+      (set-back written (at + 69) (t .toggle) (tail-back 5 1 (omega arith)))
 
 -- LAW: a record is left alone by what is written beside it
 pub record-beside : (s : List ℕ) (p : ℕ) (vs : List ℕ) (at : ℕ) → p ≤ length s → (p + length vs ≤ at) ⊎ (at + 70 ≤ p) → record-at (splice s p vs) at ≡ record-at s at
-unfolding record-at is-on
+unfolding record-at is-set
 record-beside s p vs at h b =
     fields (part-apart s p vs (le-leb p (length s) h) at 64 (far p (length vs) at 64 (first b)))
     (at-field 64 2 (omega arith))
@@ -135,15 +132,15 @@ trips-long t = simp (length-append, length-little)
 
 -- LAW: the trip states that were written are read back
 pub trips-back : (s : List ℕ) (t : Trips) → length s ≡ 256 → trips-at (splice s trips-place (trips-bytes t)) ≡ t
-unfolding trips-at is-on fromLittle number little trips-bytes
+unfolding trips-at fromLittle number little trips-bytes
 trips-back s t e = sides (side 0 (t .one .high) (omega arith) refl) (side 1 (t .one .low) (omega arith) refl) (side 2 (t .two .high) (omega arith) refl) (side 3 (t .two .low) (omega arith) refl)
   where
-    side : (k : ℕ) (b : Bool) → k + 1 ≤ 4 → number (trips-bytes t) k 1 ≡ fromLittle (little 1 (bit b)) → not (eqb (number (splice s trips-place (trips-bytes t)) (trips-place + k) 1) 0) ≡ b
-    side k b h q = ap (λ (n : ℕ). not (eqb n 0)) (number-inside s trips-place (trips-bytes t) k 1 (omega arith) (rw (trips-long t) h) ∙ q) ∙ bit-back b
+    side : (k : ℕ) (b : Bool) → k + 1 ≤ 4 → number (trips-bytes t) k 1 ≡ fromLittle (little 1 (bit b)) → is-set (splice s trips-place (trips-bytes t)) (trips-place + k) ≡ b
+    side k b h q = set-back _ (trips-place + k) b (number-inside s trips-place (trips-bytes t) k 1 (omega arith) (rw (trips-long t) h) ∙ q)
 
 -- LAW: the trip states are left alone by what is written before them
 pub trips-beside : (s : List ℕ) (p : ℕ) (vs : List ℕ) → p ≤ length s → p + length vs ≤ trips-place → trips-at (splice s p vs) ≡ trips-at s
-unfolding trips-at is-on
+unfolding trips-at is-set
 trips-beside s p vs h b = sides (side 0) (side 1) (side 2) (side 3)
   where
     side : (k : ℕ) → not (eqb (number (splice s p vs) (trips-place + k) 1) 0) ≡ not (eqb (number s (trips-place + k) 1) 0)

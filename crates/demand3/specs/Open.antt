@@ -4,6 +4,7 @@ use lib.Ieee.{lt, isNan, ofBits, ofFields}
 use Rattle.wire.specs.Splice.{splice}
 use Rattle.wire.specs.Little.{little, fromLittle, number}
 use Rattle.wire.specs.Real.{real}
+use Rattle.wire.specs.Flags.{is-set}
 use Rattle.bits.specs.Bits.{msb, bits, num-from, num, field, packed}
 use Rattle.bits.specs.Fields.{encode, decode}
 use Rattle.table.specs.Rows.{rows}
@@ -27,13 +28,13 @@ use Rattle.order.specs.Serve.{readOpening, givePart, readPart, conclude, takePa
 use Rattle.sdo.specs.Eight.{choice, openingBy, messageOf, asked, askOf, answerOf, abortOf, tellOf}
 use Rattle.sdo.specs.Lines.{eight}
 use Rattle.sdo.specs.Records.{numberOf, allows, counts, pending, view, base, lay, speak}
-use Rattle.state.specs.State.{record-place, direction-of, direction-byte, is-on, record-at, record-tail, record-bytes, trips-at, trips-bytes, dropped}
+use Rattle.state.specs.State.{record-place, direction-of, direction-byte, record-at, record-tail, record-bytes, trips-at, trips-bytes, dropped}
 use Rattle.line.specs.Answering.{settled}
 use Rattle.board.specs.Calls.{sized, number-by, served, message-call, power-up-call}
 use Rattle.demand3.specs.Firmware.{exported, history, final, power-on, line-of, answer-by, event-of, with-event, events, observed}
 
 unfoldable pub opened : Unit {0}
-unfolding lt isNan ofBits ofFields splice little fromLittle number real msb bits num-from num field packed encode decode rows find-from find-row pick held verdict-code first-fault whole-verdict real-verdict by-kind kind-verdict entry-of entry-stored default-of defaulted defaults number-verdict row-verdict enable point-fields point-bits card-bits card-of fields-of layout-verdict level-verdict first-bad point-verdict card-verdict with-point with-card width entry-bits entry-bytes within nv-rows widths saved load-rows values-good rows-good all-zero block-of headed good storable block-stored loadable loaded gate smallest largest sizes-of command-at word-of read-word status-of with-status same-bytes guarded locked fresh-values powered-up status-by done obeyed by-type value-of read-through read-whole first-code verdict-of last-checks effect accepted commit-row with-trips commit-through commit-whole write-sizes narrowed narrow counted judged judgedBy writeWhole readOpening givePart readPart conclude takePart writeOpening writePart serve choice openingBy messageOf asked askOf answerOf eight numberOf allows counts pending view base lay speak record-place direction-of direction-byte is-on record-at record-tail record-bytes trips-at trips-bytes sized number-by dropped settled served message-call power-up-call exported history final power-on
+unfolding lt isNan ofBits ofFields splice little fromLittle number real is-set msb bits num-from num field packed encode decode rows find-from find-row pick held verdict-code first-fault whole-verdict real-verdict by-kind kind-verdict entry-of entry-stored default-of defaulted defaults number-verdict row-verdict enable point-fields point-bits card-bits card-of fields-of layout-verdict level-verdict first-bad point-verdict card-verdict with-point with-card width entry-bits entry-bytes within nv-rows widths saved load-rows values-good rows-good all-zero block-of headed good storable block-stored loadable loaded gate smallest largest sizes-of command-at word-of read-word status-of with-status same-bytes guarded locked fresh-values powered-up status-by done obeyed by-type value-of read-through read-whole first-code verdict-of last-checks effect accepted commit-row with-trips commit-through commit-whole write-sizes narrowed narrow counted judged judgedBy writeWhole readOpening givePart readPart conclude takePart writeOpening writePart serve choice openingBy messageOf asked askOf answerOf eight numberOf allows counts pending view base lay speak record-place direction-of direction-byte record-at record-tail record-bytes trips-at trips-bytes sized number-by dropped settled served message-call power-up-call exported history final power-on
 opened = tt
 
 unfoldable pub observer-opened : Unit {0}

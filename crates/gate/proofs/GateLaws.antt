@@ -7,7 +7,8 @@ use lib.Dec.{eqb}
 use borrow.Author.Tests.{eqb-false, eq-eqb, ne-eqb}
 use Rattle.table.specs.Rows.{at-row}
 use Rattle.table.specs.Columns.{shape, access-in}
-use Rattle.table.specs.Find.{find-row, with-shape}
+use Rattle.table.specs.Find.{find-row}
+use Rattle.table.specs.Search.{with-shape}
 use Rattle.table.specs.declared.Found.{Found}
 use Rattle.table.specs.declared.Found.the-variants.{At, NoIndex, NoSub}
 use Rattle.table.specs.declared.Sought.{Sought}

@@ -6,11 +6,11 @@ use native.Mathlib.Omega.{arith}
 use lib.ListN.{length, length-append}
 use Rattle.wire.specs.Splice.{splice}
 use Rattle.wire.specs.Little.{little, number, put-number}
+use Rattle.wire.specs.Flags.{is-set, bit}
 use Rattle.wire.proofs.SpliceLaws.{splice-then}
 use Rattle.wire.proofs.LittleLaws.{Bytes, length-little, little-append, number-lt}
+use Rattle.wire.proofs.FlagLaws.{bit-lt}
 use Rattle.table.specs.Places.{input-value, reading-valid, overrange, underrange, summary-byte, trip-outputs}
-use Rattle.sample.specs.Sample.{is-set, bit}
-use Rattle.sample.proofs.SampleLaws.{bit-lt}
 use Rattle.sample.specs.Image.{mapped, in-order, mapping, image-of}
 
 -- a splice, and a number behind it

@@ -1,5 +1,5 @@
 -- What stands where after a sample, one law for each fact. Assumes nothing.
-use mathlib.Core.Bool.{Bool, true, false, cond, not, _&&_, and-eq-true-iff}
+use mathlib.Core.Bool.{Bool, true, false, cond, _&&_, and-eq-true-iff}
 use mathlib.Core.Path.{_≡_, refl, sym, ap, ap₂, _∙_, subst}
 use mathlib.Core.List.{List, [], _∷_}
 use Prim.Native.Nat.{ℕ, _+_, _*_, _/_, _%_, _^_, _<_}
@@ -11,13 +11,15 @@ use lib.Ieee.{Float, binary32, ofBits, toBits, fits}
 use lib.Ieee.Bits.{ofBits-toBits, toBits-lt}
 use Rattle.wire.specs.Little.{little, fromLittle, number}
 use Rattle.wire.specs.Real.{real}
+use Rattle.wire.specs.Flags.{is-set, bit}
 use Rattle.wire.proofs.LittleLaws.{Bytes, from-little, number-lt}
+use Rattle.wire.proofs.FlagLaws.{bit-lt, set-back}
 use Rattle.wire.proofs.Writes.{Write, write, written, within, tidy, shown, number-shown}
 use Rattle.trip.specs.declared.Trips.{Trips}
 use Rattle.trip.specs.Trip.{usable-pressure}
 use Rattle.table.specs.Places.{input-value, trip-input-1, trip-input-2, reading-valid, status-1, status-2, trip-outputs, settings-1, settings-2, sensor-error, active-word, latched-word, summary-byte, power-on-time}
 use Rattle.sample.specs.Faults.{kept, with-faults, summary-of, with-summary}
-use Rattle.sample.specs.Sample.{is-set, bit, settings, trips-after, with-reading, trip-word, with-trips, values-after}
+use Rattle.sample.specs.Sample.{settings, trips-after, with-reading, trip-word, with-trips, values-after}
 
 -- ---- the kept faults
 
@@ -43,14 +45,6 @@ kept-word f = omega (arith, kept-lt f)
 four-fits : (b : Bool) → cond b 0 4 < 2 ^ (8 * 1)
 four-fits true = omega arith
 four-fits false = omega arith
-
-pub bit-lt : (b : Bool) → bit b < 2
-bit-lt true = omega arith
-bit-lt false = omega arith
-
-set-bit : (b : Bool) → not (eqb (bit b) 0) ≡ b
-set-bit true = refl
-set-bit false = refl
 
 word-lt : (t : Trips) → trip-word t < 2 ^ (8 * 4)
 unfolding trip-word
@@ -205,21 +199,17 @@ module _ (l : List ℕ) (was : Trips) (p : Float) (valid faults seconds : ℕ) (
   pub outputs-shown : number (values-after l was p valid faults seconds) trip-outputs 4 ≡ trip-word (trips-after l was p valid)
   outputs-shown = let e = from-little 4 (trip-word (trips-after l was p valid)) (word-lt (trips-after l was p valid)) in number-after trip-outputs 4 _ refl e e
 
-  side-shown : (q : ℕ) (b : Bool) → number (values-after l was p valid faults seconds) q 1 ≡ fromLittle (little 1 (bit b)) → is-set (values-after l was p valid faults seconds) q ≡ b
-  unfolding is-set
-  side-shown q b e = rw (e, from-little 1 (bit b) (omega (arith, bit-lt b))) (set-bit b)
-
   pub high-1-shown : is-set (values-after l was p valid faults seconds) status-1 ≡ trips-after l was p valid .one .high
-  high-1-shown = side-shown status-1 _ (number-after status-1 1 _ refl refl refl)
+  high-1-shown = set-back _ status-1 _ (number-after status-1 1 _ refl refl refl)
 
   pub low-1-shown : is-set (values-after l was p valid faults seconds) (status-1 + 1) ≡ trips-after l was p valid .one .low
-  low-1-shown = side-shown (status-1 + 1) _ (number-after (status-1 + 1) 1 _ refl refl refl)
+  low-1-shown = set-back _ (status-1 + 1) _ (number-after (status-1 + 1) 1 _ refl refl refl)
 
   pub high-2-shown : is-set (values-after l was p valid faults seconds) status-2 ≡ trips-after l was p valid .two .high
-  high-2-shown = side-shown status-2 _ (number-after status-2 1 _ refl refl refl)
+  high-2-shown = set-back _ status-2 _ (number-after status-2 1 _ refl refl refl)
 
   pub low-2-shown : is-set (values-after l was p valid faults seconds) (status-2 + 1) ≡ trips-after l was p valid .two .low
-  low-2-shown = side-shown (status-2 + 1) _ (number-after (status-2 + 1) 1 _ refl refl refl)
+  low-2-shown = set-back _ (status-2 + 1) _ (number-after (status-2 + 1) 1 _ refl refl refl)
 
   -- ---- the settings stay
 

@@ -7,11 +7,12 @@ use lib.Ieee.{binary32, ofBits, toBits, lt, add, sub}
 use Rattle.wire.specs.Splice.{splice}
 use Rattle.wire.specs.Little.{little, fromLittle, number, put-number}
 use Rattle.wire.specs.Real.{real}
+use Rattle.wire.specs.Flags.{is-set}
 use Rattle.trip.specs.declared.Trips.{Trips}
 use Rattle.trip.specs.Trip.{settled, low-next, high-next, point-next, finite, usable-pressure, off, point-after, all-off}
 use Rattle.table.specs.Places.{input-value, reading-valid, trip-outputs, settings-1, low-enable, low-level, low-hysteresis, underrange, active-word, latched-word, summary-byte, power-on-time}
 use Rattle.sample.specs.Faults.{kept, with-faults, summary-of, with-summary}
-use Rattle.sample.specs.Sample.{is-set, settings, trips-after, with-reading, trip-word, with-trips, values-after}
+use Rattle.sample.specs.Sample.{settings, trips-after, with-reading, trip-word, with-trips, values-after}
 use Rattle.sample.specs.Image.{in-order, mapping, image-of}
 
 -- a sample, its pressure by the bit pattern

@@ -2,8 +2,8 @@
 use mathlib.Core.List.{List, [], _∷_}
 use Prim.Native.Nat.{ℕ, _+_, _*_, _^_}
 use Rattle.wire.specs.Little.{little, number}
+use Rattle.wire.specs.Flags.{is-set, bit}
 use Rattle.table.specs.Places.{input-value, reading-valid, overrange, underrange, summary-byte, trip-outputs}
-use Rattle.sample.specs.Sample.{is-set, bit}
 
 -- some bits of a mapping: how many, and their number
 pub record Mapped : Type 0 where

@@ -1,10 +1,10 @@
 -- What a sample does to the values and to the trips (document 01, "Samples, trips and words").
-use mathlib.Core.Bool.{Bool, cond, not}
+use mathlib.Core.Bool.{cond}
 use mathlib.Core.List.{List}
 use Prim.Native.Nat.{ℕ, _+_, _*_}
-use lib.Dec.{eqb}
 use lib.Ieee.{Float, binary32, toBits}
-use Rattle.wire.specs.Little.{number, put-number}
+use Rattle.wire.specs.Little.{put-number}
+use Rattle.wire.specs.Flags.{is-set, bit}
 use Rattle.wire.specs.Real.{real}
 use Rattle.trip.specs.declared.Point.{Point}
 use Rattle.trip.specs.declared.Trips.{Trips}
@@ -12,14 +12,7 @@ use Rattle.trip.specs.Trip.{usable-pressure, point-after}
 use Rattle.table.specs.Places.{input-value, trip-input-1, trip-input-2, reading-valid, status-1, status-2, trip-outputs, settings-1, settings-2, high-enable, low-enable, high-level, low-level, high-hysteresis, low-hysteresis, power-on-time}
 use Rattle.sample.specs.Faults.{with-faults, with-summary}
 
--- "a lent enable byte other than 0 is 1"
-unfoldable pub is-set : List ℕ → ℕ → Bool
-is-set l at = not (eqb (number l at 1) 0)
-
-abbrev pub bit : Bool → ℕ
-bit b = cond b 1 0
-
--- a trip point's settings, from their place on
+-- a trip point's settings, from their place on; "a lent enable byte other than 0 is 1"
 unfoldable pub settings : List ℕ → ℕ → Point
 settings l at =
     record {

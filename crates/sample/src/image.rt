@@ -4,9 +4,9 @@ ghost use Prim.Native.Nat.{_≤_};
 ghost use lib.ListN.{length};
 ghost use Rattle.wire.specs.Splice.{splice};
 ghost use Rattle.sample.specs.Image.{image-of};
-use crate::bit_of;
-use crate::is_set;
 use table::place;
+use wire::bit_of;
+use wire::is_set;
 
 pub fn image(values: &[u8], out: &mut [u8])
     requires { ⌜ (length (now values) ≡ 1024) × (10 ≤ length (now out)) ⌝ }

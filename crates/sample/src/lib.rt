@@ -5,26 +5,15 @@ use table::place;
 use trip::Point;
 use trip::Side;
 use trip::Trips;
+use wire::bit_of;
+use wire::is_set;
 ghost use mathlib.Core.Path.{_≡_};
-ghost use Prim.Native.Nat.{_+_, _≤_, _<_};
+ghost use Prim.Native.Nat.{_+_, _≤_};
 ghost use lib.ListN.{length};
 ghost use Rattle.wire.specs.Little.{put-number};
 ghost use Rattle.table.specs.Places.{summary-byte};
 ghost use Rattle.sample.specs.Faults.{kept, with-faults, summary-of};
-ghost use Rattle.sample.specs.Sample.{is-set, bit, settings, trips-after, with-reading, trip-word, with-trips, values-after};
-
-pub fn is_set(values: &[u8], at: usize) -> bool
-    requires { ⌜ at + 1 ≤ length (now values) ⌝ }
-    ensures { λ r. ⌜ r ≡ is-set (now (values .entry)) at ⌝ }
-{
-    wire::byte_at(values, at) != 0
-}
-
-pub fn bit_of(b: bool) -> u8
-    ensures { λ r. ⌜ (r ≡ bit b) × (r < 2) ⌝ }
-{
-    if b { 1 } else { 0 }
-}
+ghost use Rattle.sample.specs.Sample.{settings, trips-after, with-reading, trip-word, with-trips, values-after};
 
 fn settings_at(values: &[u8], at: usize) -> Point
     requires { ⌜ at + 34 ≤ length (now values) ⌝ }

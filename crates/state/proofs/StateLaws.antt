@@ -8,6 +8,7 @@ use lib.ListN.{length, take, drop, replicate, length-append}
 use lib.Seq.{take-all}
 use Rattle.wire.specs.Splice.{splice}
 use Rattle.wire.specs.Little.{little, number}
+use Rattle.wire.specs.Flags.{is-set, bit}
 use Rattle.wire.proofs.LittleLaws.{length-little}
 use Rattle.wire.proofs.SpliceLaws.{length-splice, splice-whole, part-length}
 use Rattle.wire.proofs.Overlaps.{splice-inside}
@@ -16,12 +17,12 @@ use Rattle.sdo.specs.declared.Direction.{Direction}
 use Rattle.sdo.specs.declared.Transfer.{Transfer}
 use Rattle.sdo.specs.Records.{allZero}
 use Rattle.sdo.specs.Replies.{grown}
-use Rattle.state.specs.State.{direction-of, direction-byte, bit, is-on, record-at, record-tail, record-bytes, trips-place, trips-bytes}
+use Rattle.state.specs.State.{direction-of, direction-byte, record-at, record-tail, record-bytes, trips-place, trips-bytes}
 use Rattle.state.proofs.InARow.{then, four-in-a-row}
 
 pub record-read : (s : List ℕ) (at : ℕ) {held : List ℕ} {row len place : ℕ} {d : Direction} {toggle : Bool} → at + 70 ≤ length s
     → held ≡ splice (replicate 64 0) 0 (take 64 (drop at s)) → row ≡ number s (at + 64) 2 → d ≡ direction-of (number s (at + 66) 1)
-    → len ≡ number s (at + 67) 1 → place ≡ number s (at + 68) 1 → toggle ≡ is-on s (at + 69)
+    → len ≡ number s (at + 67) 1 → place ≡ number s (at + 68) 1 → toggle ≡ is-set s (at + 69)
     → _≡_ {A = Transfer} (record { held = held; row = row; direction = d; len = len; place = place; toggle = toggle }) (record-at s at)
 unfolding record-at
 record-read s at h eh er ed el ep et =

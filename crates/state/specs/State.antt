@@ -1,10 +1,11 @@
 -- The 256 state bytes, as docs/STATE.md lays them out: both transfer records and the trip states. Assumes nothing.
-use mathlib.Core.Bool.{Bool, cond, not}
+use mathlib.Core.Bool.{cond}
 use mathlib.Core.List.{List, _++_}
 use Prim.Native.Nat.{ℕ, _+_, _*_}
 use lib.Dec.{eqb}
 use lib.ListN.{take, drop}
 use Rattle.wire.specs.Little.{little, number}
+use Rattle.wire.specs.Flags.{is-set, bit}
 use Rattle.wire.specs.Splice.{splice}
 use Rattle.trip.specs.declared.Trips.{Trips}
 use Rattle.trip.specs.Trip.{all-off}
@@ -29,13 +30,6 @@ direction-byte Neither = 0
 direction-byte Reads = 1
 direction-byte Writes = 2
 
-abbrev pub bit : Bool → ℕ
-bit b = cond b 1 0
-
--- "a trip byte other than 0 being on"; so is a toggle's
-unfoldable pub is-on : List ℕ → ℕ → Bool
-is-on s at = not (eqb (number s at 1) 0)
-
 -- the record that stands from a byte on
 unfoldable pub record-at : List ℕ → ℕ → Transfer
 record-at s at =
@@ -45,7 +39,7 @@ record-at s at =
       direction = direction-of (number s (at + 66) 1);
       len = number s (at + 67) 1;
       place = number s (at + 68) 1;
-      toggle = is-on s (at + 69);
+      toggle = is-set s (at + 69);
     }
 
 -- what stands behind its held bytes, and all its 70 bytes
@@ -56,12 +50,12 @@ record-tail t =
 unfoldable pub record-bytes : Transfer → List ℕ
 record-bytes t = t .held ++ record-tail t
 
--- the trip states: point 1 high and low, point 2 high and low
+-- the trip states: point 1 high and low, point 2 high and low; "a trip byte other than 0 being on"
 unfoldable pub trips-at : List ℕ → Trips
 trips-at s =
     record {
-      one = record { high = is-on s trips-place; low = is-on s (trips-place + 1) };
-      two = record { high = is-on s (trips-place + 2); low = is-on s (trips-place + 3) };
+      one = record { high = is-set s trips-place; low = is-set s (trips-place + 1) };
+      two = record { high = is-set s (trips-place + 2); low = is-set s (trips-place + 3) };
     }
 
 unfoldable pub trips-bytes : Trips → List ℕ

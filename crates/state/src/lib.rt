@@ -4,6 +4,7 @@ use sdo::Transfer;
 use sdo::record;
 use trip::On;
 use trip::Trips;
+use wire::bit_of;
 use wire::wide;
 ghost use mathlib.Core.Path.{_≡_};
 ghost use Prim.Native.Nat.{_+_, _≤_};
@@ -11,7 +12,7 @@ ghost use lib.ListN.{length, take, drop};
 ghost use Rattle.wire.specs.Splice.{splice};
 ghost use Rattle.sdo.specs.Records.{allZero};
 ghost use Rattle.sdo.specs.Replies.{grown};
-ghost use Rattle.state.specs.State.{record-at, record-tail, record-bytes, trips-place, trips-at, trips-bytes, direction-of, direction-byte, is-on, bit, dropped};
+ghost use Rattle.state.specs.State.{record-at, record-tail, record-bytes, trips-place, trips-at, trips-bytes, direction-of, direction-byte, dropped};
 
 fn direction_of(n: u8) -> Direction
     ensures { λ r. ⌜ r ≡ direction-of n ⌝ }
@@ -35,19 +36,6 @@ fn direction_byte(d: Direction) -> u8
     }
 }
 
-fn bit_of(b: bool) -> u8
-    ensures { λ r. ⌜ r ≡ bit b ⌝ }
-{
-    if b { 1 } else { 0 }
-}
-
-fn is_on(state: &[u8], at: usize) -> bool
-    requires { ⌜ at + 1 ≤ length (now state) ⌝ }
-    ensures { λ r. ⌜ r ≡ is-on (now (state .entry)) at ⌝ }
-{
-    wire::byte_at(state, at) != 0
-}
-
 // The record that stands from a byte on.
 pub fn record_at(state: &[u8], at: usize) -> Transfer
     requires { ⌜ at + 70 ≤ length (now state) ⌝ }
@@ -59,7 +47,7 @@ pub fn record_at(state: &[u8], at: usize) -> Transfer
     let direction = direction_of(wire::byte_at(state, at + 66));
     let len = wide::to_usize(wire::byte_at(state, at + 67));
     let place = wide::to_usize(wire::byte_at(state, at + 68));
-    let toggle = is_on(state, at + 69);
+    let toggle = wire::is_set(state, at + 69);
     Transfer {
         held,
         row,

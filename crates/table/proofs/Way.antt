@@ -8,7 +8,8 @@ use borrow.Author.Tests.{eq-eqb, ne-eqb}
 use Rattle.table.specs.Rows.{rows, row-count, at-row}
 use Rattle.table.specs.Rule.{key}
 use Rattle.table.specs.Columns.{shape}
-use Rattle.table.specs.Find.{absence, find-key, with-shape, Near}
+use Rattle.table.specs.Find.{absence}
+use Rattle.table.specs.Search.{find-key, with-shape, Near}
 use Rattle.table.specs.declared.Found.{Found}
 use Rattle.table.specs.declared.Found.the-variants.{At, NoIndex, NoSub}
 use Rattle.table.specs.declared.Sought.the-variants.{Row as Row', NoIndex as NoIndex', NoSub as NoSub'}

@@ -2,16 +2,12 @@
 -- Assumes nothing.
 use mathlib.Core.Bool.{Bool, true, false}
 use mathlib.Core.List.{List, [], _∷_}
-use Prim.Native.Nat.{ℕ, suc, _+_, _/_, _%_, _≤_, _<_}
+use Prim.Native.Nat.{ℕ, suc}
 use lib.Dec.{eqb}
 use Rattle.table.specs.Row.{Row}
-use Rattle.table.specs.Rows.{rows, row-count, at-row}
-use Rattle.table.specs.Rule.{key}
-use Rattle.table.specs.Columns.{shape}
+use Rattle.table.specs.Rows.{rows}
 use Rattle.table.specs.declared.Found.{Found}
 use Rattle.table.specs.declared.Found.the-variants.{At, NoIndex, NoSub}
-use Rattle.table.specs.declared.Sought.{Sought}
-use Rattle.table.specs.declared.Sought.the-variants.{Row as Row', NoIndex as NoIndex', NoSub as NoSub'}
 
 -- no row has the key: was its index seen?
 abbrev pub absence : Bool → Found
@@ -34,19 +30,3 @@ find-from (r ∷ rs) n seen i s =
 
 unfoldable pub find-row : ℕ → ℕ → Found
 find-row i s = find-from rows 0 false i s
-
--- of a key that is one number, as `key` of a row
-abbrev pub find-key : ℕ → Found
-find-key k = find-row (k / 256) (k % 256)
-
--- the code's enum, which has more: beside the row stands the row's shape
-unfoldable pub with-shape : Found → Sought
-with-shape (At r) = Row' r (shape (at-row r))
-with-shape NoIndex = NoIndex'
-with-shape NoSub = NoSub'
-
--- on the way to a key: row r is below it, and the row a step on is not
-pub record Near (step r k : ℕ) : Type 0 where
-  pub inside : r < row-count
-  pub below : key (at-row r) < k
-  pub reached : r + step < row-count → k ≤ key (at-row (r + step))

@@ -5,4 +5,5 @@ pub mod Rule
 pub mod Pairs
 pub mod Columns
 pub mod Find
+pub mod Search
 pub mod Places

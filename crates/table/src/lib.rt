@@ -12,7 +12,8 @@ ghost use lib.Dec.{eqb};
 ghost use Rattle.table.specs.Rows.{at-row};
 ghost use Rattle.table.specs.Rule.{key as row-key};
 ghost use Rattle.table.specs.Columns.{column};
-ghost use Rattle.table.specs.Find.{absence, find-row, find-key, with-shape, Near};
+ghost use Rattle.table.specs.Find.{absence, find-row};
+ghost use Rattle.table.specs.Search.{find-key, with-shape, Near};
 
 pub const ROWS: usize = columns::ROWS;
 

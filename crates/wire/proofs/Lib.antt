@@ -3,6 +3,7 @@ pub mod SpliceLaws
 pub mod Overlaps
 pub mod LittleLaws
 pub mod RealLaws
+pub mod FlagLaws
 pub mod Writes
 pub mod Turns
 pub mod Stores

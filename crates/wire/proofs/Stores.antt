@@ -54,7 +54,7 @@ pub record Made-of (w a b c d : ℕ) : Type 0 where
   pub third : w / 65536 % 256 ≡ c
   pub fourth : w / 16777216 ≡ d
 
-apart-by : (w a b c d : ℕ) → a < 256 → b < 256 → c < 256 → w ≡ a + b * 256 + c * 65536 + d * 16777216 → Made-of w a b c d
+pub apart-by : (w a b c d : ℕ) → a < 256 → b < 256 → c < 256 → w ≡ a + b * 256 + c * 65536 + d * 16777216 → Made-of w a b c d
 apart-by w a b c d ha hb hc e = record { first = omega arith; second = omega arith; third = omega arith; fourth = omega arith }
 
 pub word-apart : (l : List ℕ) (at : ℕ) {w : ℕ} → Bytes l → w ≡ number l at 4 → Made-of w (number l at 1) (number l (at + 1) 1) (number l (at + 2) 1) (number l (at + 3) 1)

@@ -2,3 +2,4 @@
 pub mod Splice
 pub mod Little
 pub mod Real
+pub mod Flags

@@ -1,4 +1,4 @@
-// Bytes on the wire: numbers, REAL values and copied parts in lent bytes.
+// Bytes on the wire: numbers, flags, REAL values and copied parts in lent bytes.
 pub mod wide;
 
 ghost use mathlib.Core.Bool.{false};
@@ -9,6 +9,7 @@ ghost use lib.Ieee.{binary32, ofBits, toBits, isNan};
 ghost use Rattle.wire.specs.Splice.{splice};
 ghost use Rattle.wire.specs.Little.{little, number};
 ghost use Rattle.wire.specs.Real.{real};
+ghost use Rattle.wire.specs.Flags.{is-set, bit};
 
 // ---- a whole number of any width
 
@@ -69,6 +70,22 @@ pub fn put_word(s: &mut [u8], at: usize, v: u32)
     s[at + 1] = (v / 256 % 256) as u8;
     s[at + 2] = (v / 65536 % 256) as u8;
     s[at + 3] = (v / 16777216 % 256) as u8;
+}
+
+// ---- flags
+
+// Whether a byte is other than 0.
+pub fn is_set(s: &[u8], at: usize) -> bool
+    requires { ⌜ at + 1 ≤ length (now s) ⌝ }
+    ensures { λ r. ⌜ r ≡ is-set (now (s .entry)) at ⌝ }
+{
+    byte_at(s, at) != 0
+}
+
+pub fn bit_of(b: bool) -> u8
+    ensures { λ r. ⌜ (r ≡ bit b) × (r < 2) ⌝ }
+{
+    if b { 1 } else { 0 }
 }
 
 // ---- parts

@@ -34,7 +34,7 @@ same-length c = search needs
 returns : tie.Need-returns
 returns c =
     let s = c .before .before .before .before .before .before .before .before .before .before .before .before .before .before .before .before .before .before .before .before .before .before .before in
-    trips-put (s .args .state .now) (s .args .t) (s .pre) (c .before .before .before .before .before .before .before .before .before .before .before .before .before .before .before .before .before .before .bit-of .ensures) (c .before .before .before .before .before .before .before .before .before .before .before .before .before .before .before .before .before .put-byte .ensures) (c .before .before .before .before .before .before .before .before .before .before .before .before .before .bit-of2 .ensures) (c .before .before .before .before .before .before .before .before .before .before .before .before .put-byte2 .ensures) (c .before .before .before .before .before .before .before .before .bit-of3 .ensures) (c .before .before .before .before .before .before .before .put-byte3 .ensures) (c .before .before .before .bit-of4 .ensures) (c .before .before .put-byte4 .ensures)
+    trips-put (s .args .state .now) (s .args .t) (s .pre) (c .before .before .before .before .before .before .before .before .before .before .before .before .before .before .before .before .before .before .bit-of .ensures .0) (c .before .before .before .before .before .before .before .before .before .before .before .before .before .before .before .before .before .put-byte .ensures) (c .before .before .before .before .before .before .before .before .before .before .before .before .before .bit-of2 .ensures .0) (c .before .before .before .before .before .before .before .before .before .before .before .before .put-byte2 .ensures) (c .before .before .before .before .before .before .before .before .bit-of3 .ensures .0) (c .before .before .before .before .before .before .before .put-byte3 .ensures) (c .before .before .before .bit-of4 .ensures .0) (c .before .before .put-byte4 .ensures)
 
 pub put-trips-spec : {M : Type 1} → statement M
 put-trips-spec =

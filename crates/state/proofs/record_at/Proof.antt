@@ -48,16 +48,16 @@ byte-at-requires-3 c κs = search needs
 to-usize-requires-2 : tie.Need-to-usize-requires-2
 to-usize-requires-2 c κs = search needs
 
-add-is-on : tie.Need-add-is-on
-add-is-on c = search needs
+add-is-set : tie.Need-add-is-set
+add-is-set c = search needs
 
-is-on-requires : tie.Need-is-on-requires
-is-on-requires c κs = search needs
+is-set-requires : tie.Need-is-set-requires
+is-set-requires c κs = search needs
 
 returns : tie.Need-returns
 returns c =
     let s = c .before .before .before .before .before .before .before .before .before .before .before .before in
-    record-read (s .args .state .now) (s .args .at) (s .pre) (c .before .before .before .before .before .before .before .before .before .copy-at .ensures) (c .before .before .before .before .before .before .before .pair-at .ensures) (c .before .before .before .before .before .direction-of .ensures ∙ ap direction-of (c .before .before .before .before .before .before .byte-at .ensures)) (c .before .before .before .to-usize .ensures .0 ∙ c .before .before .before .before .byte-at2 .ensures) (c .before .to-usize2 .ensures .0 ∙ c .before .before .byte-at3 .ensures) (c .is-on .ensures)
+    record-read (s .args .state .now) (s .args .at) (s .pre) (c .before .before .before .before .before .before .before .before .before .copy-at .ensures) (c .before .before .before .before .before .before .before .pair-at .ensures) (c .before .before .before .before .before .direction-of .ensures ∙ ap direction-of (c .before .before .before .before .before .before .byte-at .ensures)) (c .before .before .before .to-usize .ensures .0 ∙ c .before .before .before .before .byte-at2 .ensures) (c .before .to-usize2 .ensures .0 ∙ c .before .before .byte-at3 .ensures) (c .is-set .ensures)
 
 pub record-at-spec : {M : Type 1} → statement M
 record-at-spec =
@@ -77,6 +77,6 @@ record-at-spec =
     add-byte-at-3
     byte-at-requires-3
     to-usize-requires-2
-    add-is-on
-    is-on-requires
+    add-is-set
+    is-set-requires
     returns)

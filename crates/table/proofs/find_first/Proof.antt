@@ -5,7 +5,7 @@ use borrow.Author.Needs.{needs}
 use Rattle.table.specs.Rows.{rows}
 use Rattle.table.specs.Rule.{key}
 use Rattle.table.specs.Columns.{shape}
-use Rattle.table.specs.Find.{with-shape}
+use Rattle.table.specs.Search.{with-shape}
 use Rattle.table.proofs.Way.{first-of-all, here, other-sub, none-first}
 use Rattle.table.proofs.find_first.Statement.{statement}
 use Rattle.table.proofs.find_first.Tie as tie

@@ -5,7 +5,7 @@ use borrow.Author.Needs.{needs}
 use Rattle.table.specs.Rows.{rows}
 use Rattle.table.specs.Rule.{key}
 use Rattle.table.specs.Columns.{column}
-use Rattle.table.specs.Find.{with-shape}
+use Rattle.table.specs.Search.{with-shape}
 use Rattle.table.proofs.Way.{found-near, row-sought}
 use Rattle.table.proofs.find_from_96.Statement.{statement}
 use Rattle.table.proofs.find_from_96.Tie as tie

@@ -1,0 +1,14 @@
+-- Flags in bytes: "a lent enable byte other than 0 is 1", "a trip byte other than 0 being on".
+use mathlib.Core.Bool.{Bool, cond, not}
+use mathlib.Core.List.{List}
+use Prim.Native.Nat.{ℕ}
+use lib.Dec.{eqb}
+use Rattle.wire.specs.Little.{number}
+
+-- the byte at a place is other than 0
+unfoldable pub is-set : List ℕ → ℕ → Bool
+is-set l at = not (eqb (number l at 1) 0)
+
+-- a flag as a number
+abbrev pub bit : Bool → ℕ
+bit b = cond b 1 0
