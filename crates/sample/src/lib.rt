@@ -76,10 +76,14 @@ fn put_trips(values: &mut [u8], t: Trips)
 {
     let one = t.one;
     let two = t.two;
-    wire::put_byte(values, place::STATUS_1, bit_of(one.high));
-    wire::put_byte(values, place::STATUS_1 + 1, bit_of(one.low));
-    wire::put_byte(values, place::STATUS_2, bit_of(two.high));
-    wire::put_byte(values, place::STATUS_2 + 1, bit_of(two.low));
+    wire::put_flags(
+        values,
+        place::STATUS_1,
+        one.high,
+        one.low,
+        two.high,
+        two.low,
+    );
     let word = word_of(t) as u32;
     wire::put_word(values, place::TRIP_OUTPUTS, word);
 }

@@ -1,5 +1,5 @@
 -- The state bytes as the code reads and writes them: each law takes what the calls ensure. Assumes nothing.
-use mathlib.Core.Path.{_≡_, refl, ap, _∙_}
+use mathlib.Core.Path.{_≡_, ap, _∙_}
 use mathlib.Core.Bool.{Bool}
 use mathlib.Core.List.{List, _++_, append-assoc}
 use Prim.Native.Nat.{ℕ, _+_, _≤_}
@@ -12,13 +12,12 @@ use Rattle.wire.specs.Flags.{is-set, bit}
 use Rattle.wire.proofs.LittleLaws.{length-little}
 use Rattle.wire.proofs.SpliceLaws.{length-splice, splice-whole, part-length}
 use Rattle.wire.proofs.Overlaps.{splice-inside}
-use Rattle.trip.specs.declared.Trips.{Trips}
 use Rattle.sdo.specs.declared.Direction.{Direction}
 use Rattle.sdo.specs.declared.Transfer.{Transfer}
 use Rattle.sdo.specs.Records.{allZero}
 use Rattle.sdo.specs.Replies.{grown}
-use Rattle.state.specs.State.{direction-of, direction-byte, record-at, record-tail, record-bytes, trips-place, trips-bytes}
-use Rattle.state.proofs.InARow.{then, four-in-a-row}
+use Rattle.state.specs.State.{direction-of, direction-byte, record-at, record-tail, record-bytes}
+use Rattle.wire.proofs.InARow.{then, four-in-a-row}
 
 pub record-read : (s : List ℕ) (at : ℕ) {held : List ℕ} {row len place : ℕ} {d : Direction} {toggle : Bool} → at + 70 ≤ length s
     → held ≡ splice (replicate 64 0) 0 (take 64 (drop at s)) → row ≡ number s (at + 64) 2 → d ≡ direction-of (number s (at + 66) 1)
@@ -70,12 +69,3 @@ part-put l at t bytes room is fits e₁ en e₂ =
 pub record-cleared : (l : List ℕ) (at : ℕ) {l′ : List ℕ} → l′ ≡ splice l at (take 70 (drop 0 (replicate 70 0))) → l′ ≡ splice l at (record-bytes allZero)
 unfolding record-bytes record-tail direction-byte little
 record-cleared l at e = e
-
-pub trips-put : (l : List ℕ) (t : Trips) {l₁ l₂ l₃ l₄ : List ℕ} {a b c d : ℕ} → length l ≡ 256
-    → a ≡ bit (t .one .high) → l₁ ≡ splice l trips-place (little 1 a) → b ≡ bit (t .one .low) → l₂ ≡ splice l₁ (trips-place + 1) (little 1 b)
-    → c ≡ bit (t .two .high) → l₃ ≡ splice l₂ (trips-place + 2) (little 1 c) → d ≡ bit (t .two .low) → l₄ ≡ splice l₃ (trips-place + 3) (little 1 d)
-    → l₄ ≡ splice l trips-place (trips-bytes t)
-unfolding trips-bytes
-trips-put l t n ea e₁ eb e₂ ec e₃ ed e₄ =
-    rw (e₄, e₃, e₂, e₁, ea, eb, ec, ed)
-    (four-in-a-row l trips-place (trips-place + 1) (trips-place + 2) (trips-place + 3) 1 (bit (t .one .high)) (bit (t .one .low)) (bit (t .two .high)) (bit (t .two .low)) refl refl refl (omega arith))

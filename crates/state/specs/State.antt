@@ -5,7 +5,7 @@ use Prim.Native.Nat.{ℕ, _+_, _*_}
 use lib.Dec.{eqb}
 use lib.ListN.{take, drop}
 use Rattle.wire.specs.Little.{little, number}
-use Rattle.wire.specs.Flags.{is-set, bit}
+use Rattle.wire.specs.Flags.{is-set, bit, flags}
 use Rattle.wire.specs.Splice.{splice}
 use Rattle.trip.specs.declared.Trips.{Trips}
 use Rattle.trip.specs.Trip.{all-off}
@@ -59,7 +59,7 @@ trips-at s =
     }
 
 unfoldable pub trips-bytes : Trips → List ℕ
-trips-bytes t = little 1 (bit (t .one .high)) ++ (little 1 (bit (t .one .low)) ++ (little 1 (bit (t .two .high)) ++ little 1 (bit (t .two .low))))
+trips-bytes t = flags (t .one .high) (t .one .low) (t .two .high) (t .two .low)
 
 -- power-up and device reset: "trips off", "both transfer records all zero whatever they held"
 unfoldable pub dropped : List ℕ → List ℕ

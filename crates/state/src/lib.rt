@@ -134,10 +134,7 @@ pub fn put_trips(state: &mut [u8], t: Trips)
 {
     let one = t.one;
     let two = t.two;
-    wire::put_byte(state, 192, bit_of(one.high));
-    wire::put_byte(state, 193, bit_of(one.low));
-    wire::put_byte(state, 194, bit_of(two.high));
-    wire::put_byte(state, 195, bit_of(two.low));
+    wire::put_flags(state, 192, one.high, one.low, two.high, two.low);
 }
 
 // Both records all zero and the trips off.

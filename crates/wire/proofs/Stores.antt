@@ -21,7 +21,7 @@ one-store l at b h k =
     let e : b % 256 ≡ b = omega arith in
     rw e (stores l at (b ∷ []) h)
 
-little-4 : (v : ℕ) → little 4 v ≡ v % 256 ∷ v / 256 % 256 ∷ v / 65536 % 256 ∷ v / 16777216 % 256 ∷ []
+pub little-4 : (v : ℕ) → little 4 v ≡ v % 256 ∷ v / 256 % 256 ∷ v / 65536 % 256 ∷ v / 16777216 % 256 ∷ []
 unfolding little
 little-4 v = rw (div-div-eq-div-mul v 256 256, div-div-eq-div-mul v 65536 256)
 

@@ -9,7 +9,7 @@ ghost use lib.Ieee.{binary32, ofBits, toBits, isNan};
 ghost use Rattle.wire.specs.Splice.{splice};
 ghost use Rattle.wire.specs.Little.{little, number};
 ghost use Rattle.wire.specs.Real.{real};
-ghost use Rattle.wire.specs.Flags.{is-set, bit};
+ghost use Rattle.wire.specs.Flags.{is-set, bit, flags};
 
 // ---- a whole number of any width
 
@@ -86,6 +86,16 @@ pub fn bit_of(b: bool) -> u8
     ensures { λ r. ⌜ (r ≡ bit b) × (r < 2) ⌝ }
 {
     if b { 1 } else { 0 }
+}
+
+// Four flags, a byte each, stored as one word.
+pub fn put_flags(s: &mut [u8], at: usize, a: bool, b: bool, c: bool, d: bool)
+    requires { ⌜ at + 4 ≤ length (now s) ⌝ }
+    ensures { λ _. ⌜ now (s .exit) ≡ splice (now (s .entry)) at (flags a b c d) ⌝ }
+{
+    let low = wide::to_u32(bit_of(a)) + wide::to_u32(bit_of(b)) * 256;
+    let high = wide::to_u32(bit_of(c)) + wide::to_u32(bit_of(d)) * 256;
+    put_word(s, at, low + high * 65536);
 }
 
 // ---- parts
