@@ -1,4 +1,4 @@
--- Flags: what fits, and a flag that was written is read back. Assumes nothing.
+-- Flags: by cases, what fits, and a flag that was written is read back. Assumes nothing.
 use mathlib.Core.Bool.{Bool, true, false, not}
 use mathlib.Core.Path.{_≡_, refl}
 use mathlib.Core.List.{List}
@@ -8,6 +8,10 @@ use lib.Dec.{eqb}
 use Rattle.wire.specs.Little.{little, fromLittle, number}
 use Rattle.wire.specs.Flags.{is-set, bit}
 use Rattle.wire.proofs.LittleLaws.{from-little}
+
+pub by-test : {A : Type 0} (t : Bool) → (t ≡ true → A) → (t ≡ false → A) → A
+by-test true f g = f refl
+by-test false f g = g refl
 
 pub bit-lt : (b : Bool) → bit b < 2
 bit-lt true = omega arith
