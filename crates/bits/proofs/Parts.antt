@@ -166,12 +166,13 @@ field-one l k h =
     let e : 0 * 2 + getD l k 0 ≡ getD l k 0 = omega arith in
     rw (drop-cons l k 0 h, e)
 
-module _ (s : List ℕ) (k : ℕ) (h : k < 8 * length s) where
-  place : k ≡ 8 * (k / 8) + k % 8
-  place = omega arith
+-- bit k among the bits of its byte
+pub in-byte : (k : ℕ) → 8 * (k / 8) + k % 8 ≡ k
+in-byte k = omega arith
 
+module _ (s : List ℕ) (k : ℕ) (h : k < 8 * length s) where
   bit-get : field (bits s) k 1 ≡ getD s (k / 8) 0 / 2 ^ (7 - k % 8) % 2
-  bit-get = ap (λ (j : ℕ). field (bits s) j 1) place ∙ bits-get s (k / 8) (k % 8) 1 (7 - k % 8) (omega arith) (omega arith)
+  bit-get = ap (λ (j : ℕ). field (bits s) j 1) (sym (in-byte k)) ∙ bits-get s (k / 8) (k % 8) 1 (7 - k % 8) (omega arith) (omega arith)
 
 -- THE ORDER OF BITS: bit k is bit 7 - k % 8 of byte k / 8
 pub bit-at : (s : List ℕ) (k : ℕ) → k < 8 * length s → getD (bits s) k 0 ≡ getD s (k / 8) 0 / 2 ^ (7 - k % 8) % 2

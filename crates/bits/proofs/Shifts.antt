@@ -9,7 +9,7 @@ use lib.Dec.{lit<}
 use lib.ListN.{length, getD, set}
 use lib.Pow.{pow-pos, pow-add, pow-mono, shl-exact, shl-shr, shr-shr, shr-lt, low, field as pow-field}
 use Rattle.bits.proofs.Numbers.{length-bits, length-msb, msb-split}
-use Rattle.bits.proofs.Parts.{low-lt, field-lt, field-more, field-cut, splice-merged, byte-get, byte-put}
+use Rattle.bits.proofs.Parts.{low-lt, field-lt, field-more, field-cut, splice-merged, byte-get, byte-put, in-byte}
 use Rattle.bits.specs.Bits.{msb, bits, field, merged}
 use Rattle.wire.proofs.SpliceLaws.{splice-front}
 use Rattle.wire.specs.Splice.{splice}
@@ -66,16 +66,13 @@ module _ (s : List ℕ) (at width : ℕ) (h : at + width ≤ 8 * length s) where
   spans : 8 * ((at + width + 7) / 8 - at / 8) ≡ at % 8 + (width + (8 * ((at + width + 7) / 8) - at - width))
   spans = omega arith
 
-  begins : 8 * (at / 8) + at % 8 ≡ at
-  begins = omega arith
-
   pub field-got : (v : ℕ) → v ≡ field (bits s) (8 * (at / 8)) (8 * ((at + width + 7) / 8 - at / 8))
       → v / 2 ^ (8 * ((at + width + 7) / 8) - at - width) % 2 ^ width ≡ field (bits s) at width
   field-got v p =
       let e : ℕ = 8 * ((at + width + 7) / 8) - at - width in
       ap (λ (x : ℕ). x / 2 ^ e % 2 ^ width) (p ∙ ap (field (bits s) (8 * (at / 8))) spans)
       ∙ field-cut s (8 * (at / 8)) (at % 8) width e (omega arith)
-      ∙ ap (λ (j : ℕ). field (bits s) j width) begins
+      ∙ ap (λ (j : ℕ). field (bits s) j width) (in-byte at)
 
   pub field-spread : (v m x : ℕ) → x < 2 ^ width → v ≡ field (bits s) (8 * (at / 8)) (8 * ((at + width + 7) / 8 - at / 8))
       → m ≡ merged v width (8 * ((at + width + 7) / 8) - at - width) x
@@ -86,7 +83,7 @@ module _ (s : List ℕ) (at width : ℕ) (h : at + width ≤ 8 * length s) where
       (q ∙ ap (λ (y : ℕ). merged y width e x) (p ∙ ap (field (bits s) (8 * (at / 8))) spans))
       ∙ ap (λ (k : ℕ). splice (bits s) (8 * (at / 8)) (msb k (merged (field (bits s) (8 * (at / 8)) (at % 8 + (width + e))) width e x))) spans
       ∙ splice-merged s (8 * (at / 8)) (at % 8) width e x (omega arith) g
-      ∙ ap (λ (j : ℕ). splice (bits s) j (msb width x)) begins
+      ∙ ap (λ (j : ℕ). splice (bits s) j (msb width x)) (in-byte at)
 
 merged-lt : (x o n e v : ℕ) → x < 2 ^ (o + (n + e)) → v < 2 ^ n → merged x n e v < 2 ^ (o + (n + e))
 unfolding merged
@@ -96,9 +93,6 @@ merged-lt x o n e v hx hv = rw (pow-add 2 o (n + e)) (digits-lt (shr-lt o (n + e
 module _ (s : List ℕ) (at width : ℕ) (h : at / 8 + 8 ≤ length s) (k : width ≤ 32) (x : ℕ) (is : x ≡ field (bits s) (8 * (at / 8)) (8 * (at / 8 + 8 - at / 8))) where
   abbrev behind : ℕ
   behind = 64 - at % 8 - width
-
-  starts : 8 * (at / 8) + at % 8 ≡ at
-  starts = omega arith
 
   eight-is : x ≡ field (bits s) (8 * (at / 8)) (at % 8 + (width + behind))
   eight-is =
@@ -116,7 +110,7 @@ module _ (s : List ℕ) (at width : ℕ) (h : at / 8 + 8 ≤ length s) (k : widt
       ∙ ap (λ (j : ℕ). j % 2 ^ width) (sym (shr-shr (x * 2 ^ (at % 8)) (at % 8) behind))
       ∙ ap (λ (j : ℕ). j / 2 ^ behind % 2 ^ width) (shl-shr x (at % 8) ∙ eight-is)
       ∙ field-cut s (8 * (at / 8)) (at % 8) width behind (omega arith)
-      ∙ ap (λ (j : ℕ). field (bits s) j width) starts
+      ∙ ap (λ (j : ℕ). field (bits s) j width) (in-byte at)
 
   -- the eight bytes are zero from the field on
   module _ (v : ℕ) (fits : v < 2 ^ width) (zero-on : field (bits s) at (64 - at % 8) ≡ 0) where
@@ -129,7 +123,7 @@ module _ (s : List ℕ) (at width : ℕ) (h : at / 8 + 8 ≤ length s) (k : widt
         let e : 64 - at % 8 ≡ width + behind = omega arith in
         eight-is
         ∙ field-more (bits s) (8 * (at / 8)) (at % 8) (width + behind) (omega (arith, length-bits s))
-        ∙ omega (arith, sym (ap (λ (j : ℕ). field (bits s) j (width + behind)) starts), ap (field (bits s) at) e)
+        ∙ omega (arith, sym (ap (λ (j : ℕ). field (bits s) j (width + behind)) (in-byte at)), ap (field (bits s) at) e)
 
     shifted : (v * 2 ^ behind) % 2 ^ 64 ≡ v * 2 ^ behind
     shifted = shl-exact width behind 64 fits (omega arith)
@@ -155,4 +149,4 @@ module _ (s : List ℕ) (at width : ℕ) (h : at / 8 + 8 ≤ length s) (k : widt
         ap (λ (j : ℕ). splice (bits s) (8 * (at / 8)) (msb (8 * (at / 8 + 8 - at / 8)) j)) (sum-is ∙ ap (λ (j : ℕ). merged j width behind v) eight-is)
         ∙ ap (λ (j : ℕ). splice (bits s) (8 * (at / 8)) (msb j (merged (field (bits s) (8 * (at / 8)) (at % 8 + (width + behind))) width behind v))) e
         ∙ splice-merged s (8 * (at / 8)) (at % 8) width behind v (omega arith) fits
-        ∙ ap (λ (j : ℕ). splice (bits s) j (msb width v)) starts
+        ∙ ap (λ (j : ℕ). splice (bits s) j (msb width v)) (in-byte at)

@@ -9,7 +9,7 @@ use Rattle.bits.proofs.Numbers.{length-bits, length-msb, msb-split}
 use Rattle.bits.proofs.Parts.{field-more, byte-get, byte-put}
 use Rattle.wire.proofs.LittleLaws.{Bytes}
 use Rattle.bits.specs.Bits.{msb, bits, field}
-use Rattle.wire.proofs.SpliceLaws.{splice-then}
+use Rattle.wire.proofs.SpliceLaws.{splice-behind}
 use Rattle.wire.proofs.Stores.{four-bytes as bytes-of-word, four-stores as stores-of-word, apart-by}
 use Rattle.wire.specs.Splice.{splice}
 use Rattle.wire.specs.Little.{little, number}
@@ -44,10 +44,6 @@ module _ (s : List ℕ) (at : ℕ) (room : at + 4 ≤ length s) where
       (four-bytes a b c d refl (h at) refl (h (at + 1)) refl (h (at + 2)) refl (h (at + 3)))
 
 -- ---- storing
-
--- one part behind the other
-pub splice-behind : (l : List ℕ) (at : ℕ) (xs ys : List ℕ) (k : ℕ) → at + length xs ≡ k → k + length ys ≤ length l → splice (splice l at xs) k ys ≡ splice l at (xs ++ ys)
-splice-behind l at xs ys k e h = rw e at (splice-then l at xs ys (omega arith))
 
 msb-32 : (v : ℕ) → msb 32 v ≡ ((msb 8 (v / 16777216) ++ msb 8 (v / 65536 % 256)) ++ msb 8 (v / 256 % 256)) ++ msb 8 (v % 256)
 msb-32 v = rw (msb-split 24 8 v, msb-split 16 8 (v / 256), msb-split 8 8 (v / 256 / 256), div-div-eq-div-mul v 256 256, div-div-eq-div-mul v 65536 256)

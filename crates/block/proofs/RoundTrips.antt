@@ -1,6 +1,7 @@
 -- Loaded after stored, and stored after loaded, for any rows that keep the rule. Assumes nothing.
-use mathlib.Core.Bool.{true, or-true, _&&_, and-eq-true-iff}
+use mathlib.Core.Bool.{true, and-eq-true-iff}
 use mathlib.Core.List.{List, [], _∷_, _++_, append-assoc}
+use mathlib.Core.Logic.{inr}
 use mathlib.Core.Path.{_≡_, refl, sym, ap, _∙_}
 use Prim.Native.Nat.{ℕ, zero, suc, _+_, _-_, _≤_, _<_}
 use native.Mathlib.Nat.{not-suc-le-zero, le-of-suc-le-suc}
@@ -19,7 +20,7 @@ use Rattle.block.proofs.Zeros.{zeros, zeros-are}
 use Rattle.block.specs.Block.{LAYOUT, row-width, part, entry-bits, entry-bytes, within, widths, saved, load-rows, values-good, rows-good, all-zero, block-of, headed, good}
 use Rattle.table.specs.Row.{Row, no-row}
 use Rattle.wire.proofs.LittleLaws.{Bytes, bytes-part}
-use Rattle.wire.proofs.SpliceLaws.{length-splice, part-same, part-apart, splice-own}
+use Rattle.wire.proofs.SpliceLaws.{length-splice, is-apart, part-same, part-apart, splice-own}
 use Rattle.wire.specs.Little.{fromLittle, number}
 use Rattle.wire.specs.Splice.{splice, apart}
 
@@ -44,7 +45,7 @@ unfolding Rising Clear
 rising-clear [] q m t = tt
 rising-clear (r ∷ rs) q m t =
     let g : q + m ≤ r .place = t .0 in
-    (rw (le-leb (q + m) (r .place) g) (or-true (leb (r .place + r .len) q)), rising-clear rs q m (rising-below rs (q + m) (r .place + r .len) (omega arith) (t .1)))
+    (is-apart (r .place) (r .len) q m (inr g), rising-clear rs q m (rising-below rs (q + m) (r .place + r .len) (omega arith) (t .1)))
 
 -- ---- one entry
 
@@ -256,19 +257,27 @@ module _ (bs : List ℕ) (sm : Small bs) where
   take-rest : (w at : ℕ) → take w (drop at bs) ++ drop (at + w) bs ≡ drop at bs
   take-rest w at = ap (λ (l : List ℕ). take w (drop at bs) ++ l) (sym (drop-drop w at bs)) ∙ take-append-drop w (drop at bs)
 
+  -- what is tested of a block
+  good-parts : (model : ℕ) (rs : List Row) → good model bs rs ≡ true
+      → (eqb (field bs 0 4) LAYOUT ≡ true) × (eqb (field bs 4 4) model ≡ true) × (rows-good bs 8 rs ≡ true) × (all-zero (drop (8 + widths rs) bs) ≡ true)
+  unfolding headed good
+  good-parts model rs g =
+      let a = and-eq-true-iff (headed model bs) _ .0 g in
+      let b = and-eq-true-iff (eqb (field bs 0 4) LAYOUT) _ .0 (a .0) in
+      let c = and-eq-true-iff (rows-good bs 8 rs) _ .0 (a .1) in
+      (b .0, b .1, c .0, c .1)
+
   -- a block that is not faulty, loaded into any values, stores as the same block
   pub store-loaded : (model : ℕ) (rs : List Row) (values : List ℕ) → Keeps rs → Rising 0 rs → length values ≡ 1024 → length bs ≡ 4096 → 8 + widths rs ≤ 4096
       → good model bs rs ≡ true → block-of model (load-rows bs 8 rs values) rs ≡ bs
-  unfolding block-of headed good
+  unfolding block-of
   store-loaded model rs values k t n e u g =
       let w : ℕ = widths rs in
-      let ga = and-eq-true-iff (headed model bs) (rows-good bs 8 rs && all-zero (drop (8 + w) bs)) .0 g in
-      let gb = and-eq-true-iff (eqb (field bs 0 4) LAYOUT) (eqb (field bs 4 4) model) .0 (ga .0) in
-      let gc = and-eq-true-iff (rows-good bs 8 rs) (all-zero (drop (8 + w) bs)) .0 (ga .1) in
-      let lay : msb 4 LAYOUT ≡ take 4 bs = ap (msb 4) (sym (eqb-true (field bs 0 4) LAYOUT (gb .0))) ∙ part-num 0 4 (omega arith) in
-      let mdl : msb 4 model ≡ take 4 (drop 4 bs) = ap (msb 4) (sym (eqb-true (field bs 4 4) model (gb .1))) ∙ part-num 4 4 (omega arith) in
+      let gs = good-parts model rs g in
+      let lay : msb 4 LAYOUT ≡ take 4 bs = ap (msb 4) (sym (eqb-true (field bs 0 4) LAYOUT (gs .0))) ∙ part-num 0 4 (omega arith) in
+      let mdl : msb 4 model ≡ take 4 (drop 4 bs) = ap (msb 4) (sym (eqb-true (field bs 4 4) model (gs .1))) ∙ part-num 4 4 (omega arith) in
       let ln : length (drop (8 + w) bs) ≡ 4096 - (8 + w) = length-drop (8 + w) bs ∙ ap (λ (x : ℕ). x - (8 + w)) e in
-      let zs : replicate (4096 - (8 + w)) 0 ≡ drop (8 + w) bs = sym (zeros-are (drop (8 + w) bs) (gc .1) ∙ ap (λ (j : ℕ). replicate {A = ℕ} j 0) ln) in
+      let zs : replicate (4096 - (8 + w)) 0 ≡ drop (8 + w) bs = sym (zeros-are (drop (8 + w) bs) (gs .3) ∙ ap (λ (j : ℕ). replicate {A = ℕ} j 0) ln) in
       let rb : saved (load-rows bs 8 rs values) rs ≡ take w (drop 8 bs) = rows-bits rs 0 8 values k t n (omega arith) in
       rw (lay, mdl, rb, zs)
       (ap (λ (l : List ℕ). take 4 bs ++ (take 4 (drop 4 bs) ++ l)) (take-rest w 8)
@@ -277,8 +286,4 @@ module _ (bs : List ℕ) (sm : Small bs) where
 
   pub loaded-good : (model : ℕ) (rs : List Row) (values : List ℕ) → Keeps rs → Rising 0 rs → length values ≡ 1024 → length bs ≡ 4096 → 8 + widths rs ≤ 4096
       → good model bs rs ≡ true → values-good (load-rows bs 8 rs values) rs ≡ true
-  unfolding good
-  loaded-good model rs values k t n e u g =
-      let w : ℕ = widths rs in
-      let ga = and-eq-true-iff (headed model bs) (rows-good bs 8 rs && all-zero (drop (8 + w) bs)) .0 g in
-      rows-values rs 0 8 values k t n (omega arith) (and-eq-true-iff (rows-good bs 8 rs) (all-zero (drop (8 + w) bs)) .0 (ga .1) .0)
+  loaded-good model rs values k t n e u g = rows-values rs 0 8 values k t n (omega arith) (good-parts model rs g .2)

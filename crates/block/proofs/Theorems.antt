@@ -1,17 +1,16 @@
 -- THE SAVED BLOCK of the BAG552: a load after a store leaves every NV entry as it was, a store after a load gives the same 512
 -- bytes, a faulty block changes nothing, and an entry without NV mark is never touched. Assumes nothing.
-use mathlib.Core.Bool.{Bool, true, false, cond, or-true}
+use mathlib.Core.Bool.{Bool, true, false, cond}
 use mathlib.Core.List.{List, [], _∷_, _++_}
-use mathlib.Core.Logic.{⊎-elim}
 use mathlib.Core.Path.{_≡_, refl, sym, ap, _∙_}
-use Prim.Native.Nat.{ℕ, zero, suc, _+_, _-_, _*_, _≤_, _<_}
+use Prim.Native.Nat.{ℕ, zero, suc, _+_, _-_, _*_, _<_}
 use native.Mathlib.Omega.{arith}
-use lib.Dec.{leb, lit<}
+use lib.Dec.{lit<}
 use lib.ListN.{length, take, drop, getD, replicate, length-append, length-replicate}
 use lib.Seq.{take-all}
-use borrow.Author.Tests.{le-leb}
 use Rattle.bits.proofs.Numbers.{length-msb, length-bits, length-packed, bits-packed, bytes-of, small-bits, small-msb, small-append}
 use Rattle.wire.proofs.LittleLaws.{Bytes}
+use Rattle.wire.proofs.SpliceLaws.{is-apart}
 use Rattle.bits.specs.Bits.{msb, bits, packed, Small}
 use Rattle.block.proofs.Entries.{small-entry}
 use Rattle.block.proofs.RoundTrips.{Clear, Rising, copy-rows, copied-entry, copy-own, load-beside, length-load, load-stored, stored-good, store-loaded, loaded-good}
@@ -25,7 +24,6 @@ use Rattle.table.proofs.Table.{rows-pass, rows-length, disjoint}
 use Rattle.table.specs.Row.{Row, no-row}
 use Rattle.table.specs.Rows.{rows, row-count, at-row}
 use Rattle.table.specs.Rule.{held}
-use Rattle.wire.specs.Splice.{apart}
 
 nv-rise : Rising 0 nv
 nv-rise = table-rises rows rows-pass
@@ -156,17 +154,13 @@ faulty-leaves block values e = rw e
 
 -- ---- an entry without NV mark is never touched
 
-apart-by : (p n q m : ℕ) → (p + n ≤ q → apart p n q m ≡ true) × (q + m ≤ p → apart p n q m ≡ true)
-apart-by p n q m = ((λ h. rw (le-leb (p + n) q h)), (λ h. rw (le-leb (q + m) p h) (or-true (leb (p + n) q))))
-
 other-clear : (k : ℕ) → k < row-count → (at-row k .nv ≡ 1 → ⊥) → Clear nv (at-row k .place) (held (at-row k))
 other-clear k h d =
     nv-clear rows (at-row k .place) (held (at-row k))
     (λ j l m.
     let r : j < row-count = omega (arith, rows-length) in
     let e : held (at-row j) ≡ at-row j .len = kept-at j r m .held-all in
-    let b = apart-by (at-row j .place) (at-row j .len) (at-row k .place) (held (at-row k)) in
-    ⊎-elim (λ x. b .0 (omega arith)) (λ x. b .1 x) (disjoint j k r h (λ s. d (rw s at m))))
+    rw e at (is-apart (at-row j .place) (held (at-row j)) (at-row k .place) (held (at-row k)) (disjoint j k r h (λ s. d (rw s at m)))))
 
 pub load-other : (block values : List ℕ) → length values ≡ 1024 → (k : ℕ) → k < row-count → (at-row k .nv ≡ 1 → ⊥)
     → entry-of (at-row k) (loaded block values) ≡ entry-of (at-row k) values

@@ -19,7 +19,7 @@ use Rattle.block.specs.Block.{LAYOUT, BAG552, widths, saved, load-rows, 
 use Rattle.block.specs.Saved.{nv, storable, stored, loadable, loaded}
 use Rattle.table.specs.Row.{Row}
 use Rattle.table.specs.Rows.{nv-count, nv-end}
-use Rattle.wire.proofs.SpliceLaws.{splice-then}
+use Rattle.wire.proofs.SpliceLaws.{splice-behind}
 use Rattle.wire.specs.Splice.{splice}
 
 -- ---- the rest, by bytes
@@ -105,12 +105,9 @@ fresh-bits values e =
     let ls : length s ≡ widths nv = length-saved values nv nv-keep e in
     let lz : length z ≡ 8 * fresh-bytes = length-replicate {A = ℕ} (8 * fresh-bytes) 0 in
     let n : 0 + length (a ++ (b ++ s)) ≡ 8 + widths nv = omega (arith, length-append a (b ++ s), length-append b s) in
-    let two : splice (splice z 0 a) 4 b ≡ splice z 0 (a ++ b) = ap (λ (k : ℕ). splice (splice z 0 a) k b) (sym la) ∙ splice-then z 0 a b (omega arith) in
-    let lab : 0 + length (a ++ b) ≡ 8 = omega (arith, length-append a b) in
     ap (λ (l : List ℕ). splice (splice (splice l 0 a) 4 b) 8 s) (bits-zero fresh-bytes)
-    ∙ ap (λ (l : List ℕ). splice l 8 s) two
-    ∙ ap (λ (k : ℕ). splice (splice z 0 (a ++ b)) k s) (sym lab)
-    ∙ splice-then z 0 (a ++ b) s (omega (arith, nv-ends))
+    ∙ ap (λ (l : List ℕ). splice l 8 s) (splice-behind z 0 a b 4 la (omega arith))
+    ∙ splice-behind z 0 (a ++ b) s 8 (omega (arith, length-append a b)) (omega (arith, nv-ends))
     ∙ ap (splice z 0) (append-assoc a b s)
     ∙ ap (λ (k : ℕ). (a ++ (b ++ s)) ++ drop k z) n
     ∙ ap (λ (l : List ℕ). (a ++ (b ++ s)) ++ l) (drop-replicate (8 + widths nv) (8 * fresh-bytes))

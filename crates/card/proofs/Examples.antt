@@ -6,6 +6,7 @@ use lib.ListN.{replicate}
 use lib.Ieee.{lt, isNan, ofBits, ofFields}
 use Rattle.wire.specs.Splice.{splice}
 use Rattle.wire.specs.Little.{little, fromLittle, number, put-number}
+use Rattle.wire.specs.Flags.{is-set}
 use Rattle.bits.specs.Bits.{msb, bits, num-from, num, field, packed}
 use Rattle.bits.specs.Fields.{encode, decode}
 use Rattle.table.specs.Places.{settings-1, low-enable, low-level, low-hysteresis}
@@ -22,7 +23,7 @@ abbrev pub half-low-card : List ℕ
 half-low-card = 0x14 ∷ (replicate 8 0 ++ (0xFC ∷ (replicate 3 0 ++ (0xF8 ∷ replicate 19 0))))
 
 pub example-K-card : card-of half-low ≡ half-low-card
-unfolding splice little fromLittle number msb num-from num packed encode enable point-fields point-bits card-bits card-of
+unfolding splice little fromLittle number is-set msb num-from num packed encode enable point-fields point-bits card-bits card-of
 example-K-card = refl
 
 -- and that card, written into zeros, is those values

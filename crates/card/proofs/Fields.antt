@@ -1,14 +1,14 @@
 -- The fields of a trip point: each fits its bits, whether they come from the values or from a card. Assumes nothing.
-use mathlib.Core.Bool.{Bool, true, false, cond}
 use mathlib.Core.Path.{_≡_}
 use mathlib.Core.List.{List, [], _∷_}
 use Prim.Native.Nat.{ℕ, zero, suc, _+_, _^_, _<_}
 use native.Mathlib.Nat.{lt-of-lt-of-le}
 use native.Mathlib.Omega.{arith}
-use lib.Dec.{eqb}
 use lib.ListN.{length, take, drop, getD, length-take}
 use lib.Pow.{pow-mono, pow-pos}
 use Rattle.wire.specs.Little.{number, put-number}
+use Rattle.wire.specs.Flags.{is-set}
+use Rattle.wire.proofs.FlagLaws.{bit-lt}
 use Rattle.wire.proofs.LittleLaws.{Bytes, number-lt}
 use Rattle.bits.specs.Bits.{bits, Small}
 use Rattle.bits.specs.Fields.{decode, total, Packable}
@@ -17,13 +17,9 @@ use Rattle.bits.proofs.Packing.{length-encode}
 use Rattle.table.specs.Places.{high-enable, low-enable, high-level, low-level, high-hysteresis, low-hysteresis}
 use Rattle.card.specs.Card.{widths, enable, point-fields, point-bits, fields-of, with-point}
 
-flag-lt : (b : Bool) → cond b 0 1 < 2
-flag-lt true = omega arith
-flag-lt false = omega arith
-
 pub enable-lt : (l : List ℕ) (at : ℕ) → enable l at < 2
 unfolding enable
-enable-lt l at = flag-lt (eqb (number l at 1) 0)
+enable-lt l at = bit-lt (is-set l at)
 
 pub point-enables : (l : List ℕ) (at : ℕ) → (getD (point-fields l at) 0 0 < 2) × (getD (point-fields l at) 1 0 < 2)
 unfolding point-fields

@@ -5,13 +5,14 @@ use Prim.Native.Nat.{ℕ, zero, suc, _+_, _*_, _≤_, _<_}
 use native.Mathlib.Nat.{suc-add, zero-add}
 use native.Mathlib.Omega.{arith}
 use lib.ListN.{length, take, drop, replicate, getD, length-append, length-drop}
-use lib.Seq.{take-append-le, drop-append-le, drop-drop, drop-at, drop-nil, getD-drop}
+use lib.Seq.{take-append-le, drop-append-le, getD-drop}
 use Rattle.wire.specs.Splice.{splice}
-use Rattle.wire.proofs.SpliceLaws.{splice-then, part-same}
+use Rattle.wire.proofs.SpliceLaws.{splice-behind, part-same}
 use Rattle.wire.proofs.LittleLaws.{Bytes}
 use Rattle.bits.specs.Bits.{msb, bits, num, packed}
 use Rattle.bits.specs.Fields.{encode}
 use Rattle.bits.proofs.Numbers.{length-msb, msb-cat, length-bits, length-packed, bytes-of}
+use Rattle.bits.proofs.Copying.{bits-drop}
 use Rattle.table.specs.Places.{settings-1, settings-2}
 use Rattle.card.specs.Card.{layout, widths, point-fields, point-bits, card-bits, card-of}
 use Rattle.card.proofs.Fields.{enable-lt, length-point}
@@ -41,28 +42,13 @@ packed-append (suc m) n A B h =
     let g : 8 ≤ length A = omega arith in
     rw (suc-add m n, take-append-le 8 A B g, drop-append-le 8 A B g) (ap (λ (l : List ℕ). num (take 8 A) ∷ l) (packed-append m n (drop 8 A) B (omega (arith, length-drop 8 A))))
 
--- ---- one behind the other
-
-behind : (o xs ys : List ℕ) (at : ℕ) → length xs ≡ at → at + length ys ≤ length o → splice (splice o 0 xs) at ys ≡ splice o 0 (xs ++ ys)
-behind o xs ys at e h =
-    let z : 0 + length xs ≡ at = omega arith in
-    rw z at (splice-then o 0 xs ys (omega arith))
-
-bits-drop : (n : ℕ) (s : List ℕ) → drop (8 * n) (bits s) ≡ bits (drop n s)
-unfolding bits
-bits-drop zero s = refl
-bits-drop (suc n) [] = drop-nil (8 * suc n)
-bits-drop (suc n) (x ∷ xs) =
-    let e : 8 * suc n ≡ 8 + 8 * n = omega arith in
-    rw (e, ← drop-drop (8 * n) 8 (msb 8 x ++ bits xs), drop-at (msb 8 x) (bits xs) 8 (length-msb 8 x)) (bits-drop n xs)
-
 -- bytes whose first 264 bits are replaced have 33 others
 from-bits : (s c E : List ℕ) → Bytes s → Bytes c → length c ≡ length s → 33 ≤ length s → length E ≡ 264 → bits c ≡ splice (bits s) 0 E → c ≡ splice s 0 (packed 33 E)
 unfolding splice
 from-bits s c E hs hc n room e b =
     let r : List ℕ = drop 33 s in
     let z : 0 + length E ≡ 8 * 33 = omega arith in
-    let w : bits c ≡ E ++ bits r = b ∙ rw (z, bits-drop 33 s) in
+    let w : bits c ≡ E ++ bits r = b ∙ rw (z, bits-drop s 33) in
     let m : length c ≡ 33 + length r = omega (arith, length-drop 33 s) in
     let hr : Bytes r = λ k. rw getD-drop (hs (33 + k)) in
     sym (bytes-of c hc) ∙ ap₂ packed m w ∙ packed-append 33 (length r) E (bits r) e ∙ rw (bytes-of r hr, length-packed 33 E)
@@ -93,4 +79,4 @@ card-made values s t c one two h m hv hs hc n room e1 e2 eh em et ec =
     let same : A ++ Q ≡ card-bits values =
     rw (eh, em, e1, e2) (regrouped _ _ _ _ _ _ _ _ _ _ _ _ (enable-lt values _) (enable-lt values _) (enable-lt values _) (enable-lt values _)) in
     from-bits s c (card-bits values) hs hc n room (length-card-bits values hv)
-    (ec ∙ ap (λ (x : List ℕ). splice x 136 Q) et ∙ behind (bits s) A Q 136 la (omega (arith, length-bits s)) ∙ ap (splice (bits s) 0) same)
+    (ec ∙ ap (λ (x : List ℕ). splice x 136 Q) et ∙ splice-behind (bits s) 0 A Q 136 (omega arith) (omega (arith, length-bits s)) ∙ ap (splice (bits s) 0) same)

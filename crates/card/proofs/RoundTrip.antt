@@ -10,6 +10,7 @@ use lib.Seq.{drop-drop, length-take-le}
 use borrow.Author.Tests.{eqb-true}
 use Rattle.wire.specs.Splice.{splice}
 use Rattle.wire.specs.Little.{number, put-number}
+use Rattle.wire.specs.Flags.{is-set}
 use Rattle.wire.proofs.SpliceLaws.{splice-own}
 use Rattle.wire.proofs.LittleLaws.{Bytes, little-number}
 use Rattle.bits.specs.Bits.{msb, bits, field, packed, Small}
@@ -85,7 +86,7 @@ put-own : (l : List ℕ) → Bytes l → (at n : ℕ) → at + n ≤ length l �
 put-own l h at n room = ap (splice l at) (little-number l at n h room) ∙ splice-own l at n room
 
 enable-own : (l : List ℕ) (at : ℕ) → number l at 1 ≤ 1 → enable l at ≡ number l at 1
-unfolding enable
+unfolding enable is-set
 enable-own l at h = flag-back (number l at 1) (omega arith)
 
 point-own : (values : List ℕ) (at : ℕ) → Bytes values → at + 34 ≤ length values → Flags values at → with-point values at (point-fields values at) ≡ values

@@ -1,5 +1,5 @@
 -- What a card's write leaves: the values' length, its fields in the twelve entries, every other byte. Assumes nothing.
-use mathlib.Core.Bool.{Bool, true, cond, _&&_, and-eq-true-iff}
+use mathlib.Core.Bool.{Bool, true, not, _&&_, and-eq-true-iff}
 use mathlib.Core.Path.{_≡_, refl, _∙_}
 use mathlib.Core.List.{List, [], _∷_}
 use Prim.Native.Nat.{ℕ, zero, suc, _+_, _<_}
@@ -9,6 +9,7 @@ use lib.ListN.{length, take, drop, getD}
 use borrow.Author.Tests.{leb-true, le-leb}
 use Rattle.wire.specs.Splice.{apart}
 use Rattle.wire.specs.Little.{little, fromLittle, number, put-number}
+use Rattle.wire.specs.Flags.{is-set, bit}
 use Rattle.wire.proofs.SpliceLaws.{part-apart}
 use Rattle.wire.proofs.LittleLaws.{length-little, from-little, put-length}
 use Rattle.wire.proofs.Writes.{Write, write, written, within, tidy, shown, written-length, number-shown}
@@ -54,13 +55,13 @@ unfolding with-card with-point
 card-written values card = refl
 
 -- a field that is one bit comes back from its byte
-pub flag-back : (v : ℕ) → v < 2 → cond (eqb v 0) 0 1 ≡ v
+pub flag-back : (v : ℕ) → v < 2 → bit (not (eqb v 0)) ≡ v
 flag-back zero h = refl
 flag-back (suc zero) h = refl
 flag-back (suc (suc v)) h = absurd (omega arith)
 
 enable-back : (l : List ℕ) (at v : ℕ) → number l at 1 ≡ fromLittle (little 1 v) → v < 2 → enable l at ≡ v
-unfolding enable
+unfolding enable is-set
 enable-back l at v e h = rw (e, from-little 1 v (omega arith)) (flag-back v h)
 
 -- six fields are their list

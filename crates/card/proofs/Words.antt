@@ -10,7 +10,7 @@ use Rattle.bits.specs.Bits.{msb, bits, field}
 use Rattle.bits.specs.Fields.{decode}
 use Rattle.bits.proofs.Numbers.{length-msb, length-bits, msb-cat, msb-split}
 use Rattle.bits.proofs.Parts.{field-more, field-lt, bits-get, byte-get, byte-put}
-use Rattle.bits.proofs.Words.{splice-behind}
+use Rattle.wire.proofs.SpliceLaws.{splice-behind}
 use Rattle.card.specs.Card.{point-1, point-2, fields-of}
 
 -- ---- words put

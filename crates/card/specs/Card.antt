@@ -7,6 +7,7 @@ use Prim.Native.Nat.{ℕ, _+_}
 use lib.Dec.{eqb, leb}
 use lib.ListN.{drop, getD}
 use Rattle.wire.specs.Little.{number, put-number}
+use Rattle.wire.specs.Flags.{is-set, bit}
 use Rattle.bits.specs.Bits.{msb, bits, field, packed}
 use Rattle.bits.specs.Fields.{encode, decode}
 use Rattle.table.specs.Row.{REAL}
@@ -34,7 +35,7 @@ point-2 = 134
 
 -- "In the card and in a sample a lent enable byte other than 0 is 1"
 unfoldable pub enable : List ℕ → ℕ → ℕ
-enable values at = cond (eqb (number values at 1) 0) 0 1
+enable values at = bit (is-set values at)
 
 -- the fields of the trip point whose entries begin at a place; levels and hystereses bit for bit
 unfoldable pub point-fields : List ℕ → ℕ → List ℕ

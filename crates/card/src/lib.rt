@@ -18,10 +18,7 @@ fn enable_at(values: &[u8], at: usize) -> u32
     requires { ⌜ at + 1 ≤ length (now values) ⌝ }
     ensures { λ r. ⌜ r ≡ enable (now (values .entry)) at ⌝ }
 {
-    if wire::byte_at(values, at) == 0 {
-        return 0;
-    }
-    1
+    wide::to_u32(wire::bit_of(wire::is_set(values, at)))
 }
 
 // The fields of the point whose entries begin at a place.

@@ -33,6 +33,7 @@ use Rattle.sdo.specs.declared.Direction.the-variants.{Reads, Writes}
 use Rattle.sdo.specs.Eight.{Code}
 use Rattle.sdo.specs.Lines.{Sound, BoardCall}
 use Rattle.sdo.specs.Records.{allows, RowOf, GoodAfter, Rows, Demand3Records}
+use Rattle.sdo.proofs.Demand.{Coded, CodedSizes}
 use Rattle.sdo.proofs.DemandRecords.{demand3-records}
 use Rattle.board.specs.Gauge.{sampled, bag552}
 use Rattle.demand3.specs.Firmware.{powered-store}
@@ -88,34 +89,24 @@ unfolding WayOk ReadOk read-through
 read-ok (to-row r) values h = omega (arith, value-short r h values)
 read-ok (no-way c) values h = h
 
-SizesOk : Sizes → Type 0
-SizesOk (sizes low high) = Unit {0}
-SizesOk (closed c) = Code c
-
-sizes-ok : (w : Way) → WayOk w → SizesOk (sizes-of w)
-unfolding WayOk SizesOk sizes-of
+sizes-ok : (w : Way) → WayOk w → CodedSizes (sizes-of w)
+unfolding WayOk CodedSizes sizes-of
 sizes-ok (to-row r) h = tt
 sizes-ok (no-way c) h = h
 
-module _ {S : Type 0} where
-  OutcomeOk : Outcome S → Type 0
-  OutcomeOk (stored g) = Unit {0}
-  OutcomeOk (restarted g) = Unit {0}
-  OutcomeOk (declined c) = Code c
+ok-cond : {S : Type 0} (b : Bool) (x y : Outcome S) → Coded x → Coded y → Coded (cond b x y)
+ok-cond true x y h k = h
+ok-cond false x y h k = k
 
-  ok-cond : (b : Bool) (x y : Outcome S) → OutcomeOk x → OutcomeOk y → OutcomeOk (cond b x y)
-  ok-cond true x y h k = h
-  ok-cond false x y h k = k
-
-done-ok : (c : Command) (m : Memory) → OutcomeOk (done c m)
-unfolding OutcomeOk done
+done-ok : (c : Command) (m : Memory) → Coded (done c m)
+unfolding Coded done
 done-ok DeviceReset m = tt
 done-ok ExceptionReset m = tt
 done-ok StoreParameters m = tt
 done-ok LoadParameters m = tt
 
-effect-ok : (r : Row) (bytes : List ℕ) (m : Memory) → OutcomeOk (effect r bytes m)
-unfolding OutcomeOk effect by-type obeyed
+effect-ok : (r : Row) (bytes : List ℕ) (m : Memory) → Coded (effect r bytes m)
+unfolding Coded effect by-type obeyed
 effect-ok r bytes m =
     ok-cond (eqb (r .kind) CARD) _ _ tt
     (ok-cond (eqb (r .kind) COMMAND) _ _ (ok-cond (same-bytes bytes (word-of (command-at (r .index)))) _ _ (done-ok (command-at (r .index)) m) tt) tt)
@@ -133,19 +124,19 @@ first-ok r values bytes = go (locked r values) (is-code 0x06090030 r bytes) (is-
     go false false false true = inr (code 0x06090032 (omega arith) (omega arith))
     go false false false false = inl refl
 
-accepted-ok : (n : ℕ) (o : Outcome Memory) → (n ≡ 0) ⊎ Code n → OutcomeOk o → OutcomeOk (accepted n o)
-unfolding OutcomeOk accepted
+accepted-ok : (n : ℕ) (o : Outcome Memory) → (n ≡ 0) ⊎ Code n → Coded o → Coded (accepted n o)
+unfolding Coded accepted
 accepted-ok n o (inl e) h = rw e h
 accepted-ok n o (inr c) h = ok-cond (eqb n 0) o (declined n) h c
 
-trips-ok : (g : Store) (o : Outcome Memory) → OutcomeOk o → OutcomeOk (with-trips g o)
-unfolding OutcomeOk with-trips
+trips-ok : (g : Store) (o : Outcome Memory) → Coded o → Coded (with-trips g o)
+unfolding Coded with-trips
 trips-ok g (stored m) h = tt
 trips-ok g (restarted m) h = tt
 trips-ok g (declined c) h = h
 
-commit-ok : (w : Way) (g : Store) (bytes : List ℕ) → WayOk w → OutcomeOk (commit-through w g bytes)
-unfolding WayOk OutcomeOk commit-through commit-row
+commit-ok : (w : Way) (g : Store) (bytes : List ℕ) → WayOk w → Coded (commit-through w g bytes)
+unfolding WayOk Coded commit-through commit-row
 commit-ok (to-row r) g bytes h =
     trips-ok g (commit-row (at-row r) bytes (g .memory))
     (accepted-ok (first-code (last-checks (at-row r) (g .memory .values) bytes)) (effect (at-row r) bytes (g .memory)) (first-ok (at-row r) (g .memory .values) bytes) (effect-ok (at-row r) bytes (g .memory)))
@@ -158,13 +149,13 @@ write-gate-ok : (k : Key) → WayOk (write-gate (find-row (k .index) (k .sub)))
 write-gate-ok k = gate-ok RO read-only (k .index) (k .sub) (find-row (k .index) (k .sub)) (code read-only (omega arith) (omega arith)) refl
 
 pub sound : Sound bag552
-unfolding ReadOk SizesOk OutcomeOk read-whole write-sizes commit-whole
+unfolding ReadOk CodedSizes Coded read-whole write-sizes commit-whole
 sound =
     record {
       value-fits = λ g k bytes e. subst ReadOk e (read-ok (read-gate (find-row (k .index) (k .sub))) (g .memory .values) (read-gate-ok k));
       read-code = λ g k c e. subst ReadOk e (read-ok (read-gate (find-row (k .index) (k .sub))) (g .memory .values) (read-gate-ok k));
-      row-code = λ k c e. subst SizesOk e (sizes-ok (write-gate (find-row (k .index) (k .sub))) (write-gate-ok k));
-      commit-code = λ g k bytes c e. subst OutcomeOk e (commit-ok (write-gate (find-row (k .index) (k .sub))) g bytes (write-gate-ok k));
+      row-code = λ k c e. subst CodedSizes e (sizes-ok (write-gate (find-row (k .index) (k .sub))) (write-gate-ok k));
+      commit-code = λ g k bytes c e. subst Coded e (commit-ok (write-gate (find-row (k .index) (k .sub))) g bytes (write-gate-ok k));
     }
 
 -- ---- rows

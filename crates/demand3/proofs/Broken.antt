@@ -2,7 +2,7 @@
 use Prim.Native.Nat.{ℕ}
 use native.Mathlib.Omega.{arith}
 use mathlib.Core.Path.{_≡_, ap}
-use mathlib.Core.List.{List, [], _∷_, map}
+use mathlib.Core.List.{List, _++_, map}
 use lib.ListN.{getD, replicate}
 use Rattle.order.specs.Talk.{Result, gave, yes!, code, taken}
 use Rattle.order.specs.Gauge.{results}
@@ -11,7 +11,7 @@ use Rattle.sdo.specs.Lines.{gauge}
 use Rattle.board.specs.Gauge.{bag552}
 use Rattle.demand3.specs.Firmware.{Exported, Back, observed, powered-store}
 use Rattle.demand3.specs.Open.{opened, observer-opened}
-use Rattle.demand3.proofs.Conversation.{Case, on, asks, expects}
+use Rattle.demand3.proofs.Conversation.{Case, asks, expects, label-read, label-write}
 
 -- what a board answered, as the observer is given it, and the first line of demand 3 for it
 abbrev told : List Case → List (Exported × Back)
@@ -30,27 +30,9 @@ first-byte taken = 0
 abbrev byte-of : ℕ → List Result → ℕ
 byte-of n rs = first-byte (getD rs n taken)
 
--- a read of the label, whose parts hold this byte
-abbrev label-read : ℕ → List Case
-label-read x =
-    on 0 (0x40 ∷ 0x01 ∷ 0x20 ∷ []) (0x41 ∷ 0x01 ∷ 0x20 ∷ 0x00 ∷ 0x20 ∷ []) ∷
-    on 0 (0x60 ∷ []) (0x00 ∷ replicate 7 x) ∷
-    on 0 (0x70 ∷ []) (0x10 ∷ replicate 7 x) ∷
-    on 0 (0x60 ∷ []) (0x00 ∷ replicate 7 x) ∷
-    on 0 (0x70 ∷ []) (0x10 ∷ replicate 7 x) ∷
-    on 0 (0x60 ∷ []) (0x07 ∷ replicate 4 x) ∷
-    []
-
 -- ONE THAT STORES NOTHING: after an accepted write of 41s it still shows zeros
 pub forgets : List Case
-forgets =
-    on 1 (0x21 ∷ 0x01 ∷ 0x20 ∷ 0x00 ∷ 0x20 ∷ []) (0x60 ∷ 0x01 ∷ 0x20 ∷ []) ∷
-    on 1 (0x00 ∷ replicate 7 0x41) (0x20 ∷ []) ∷
-    on 1 (0x10 ∷ replicate 7 0x41) (0x30 ∷ []) ∷
-    on 1 (0x00 ∷ replicate 7 0x41) (0x20 ∷ []) ∷
-    on 1 (0x10 ∷ replicate 7 0x41) (0x30 ∷ []) ∷
-    on 1 (0x07 ∷ replicate 4 0x41) (0x20 ∷ []) ∷
-    label-read 0
+forgets = label-write 1 0x41 ++ label-read 0 0
 
 pub forgetful-not-plain : Plain forgets → ⊥
 unfolding forgets first-byte opened observer-opened
@@ -59,7 +41,7 @@ forgetful-not-plain h =
     omega arith
 
 -- ONE THAT SERVES THE OPENING AND FAKES THE LATER PARTS: the label is zeros, and whatever other byte it sends is no label's
-pub faker-not-plain : Plain (label-read 0x41) → ⊥
+pub faker-not-plain : Plain (label-read 0 0x41) → ⊥
 unfolding first-byte opened observer-opened
 faker-not-plain h =
     let e : _≡_ {A = ℕ} 0 0x41 = ap (byte-of 0) h in

@@ -58,3 +58,25 @@ card-write line card =
     on line (0x10 ∷ take 7 (drop 21 card)) (0x30 ∷ []) ∷
     on line (0x05 ∷ drop 28 card) (0x20 ∷ []) ∷
     []
+
+-- ---- the label, all its bytes alike, read and written whole in five parts
+
+abbrev pub label-read : ℕ → ℕ → List Case
+label-read line x =
+    on line (0x40 ∷ 0x01 ∷ 0x20 ∷ []) (0x41 ∷ 0x01 ∷ 0x20 ∷ 0x00 ∷ 0x20 ∷ []) ∷
+    on line (0x60 ∷ []) (0x00 ∷ replicate 7 x) ∷
+    on line (0x70 ∷ []) (0x10 ∷ replicate 7 x) ∷
+    on line (0x60 ∷ []) (0x00 ∷ replicate 7 x) ∷
+    on line (0x70 ∷ []) (0x10 ∷ replicate 7 x) ∷
+    on line (0x60 ∷ []) (0x07 ∷ replicate 4 x) ∷
+    []
+
+abbrev pub label-write : ℕ → ℕ → List Case
+label-write line x =
+    on line (0x21 ∷ 0x01 ∷ 0x20 ∷ 0x00 ∷ 0x20 ∷ []) (0x60 ∷ 0x01 ∷ 0x20 ∷ []) ∷
+    on line (0x00 ∷ replicate 7 x) (0x20 ∷ []) ∷
+    on line (0x10 ∷ replicate 7 x) (0x30 ∷ []) ∷
+    on line (0x00 ∷ replicate 7 x) (0x20 ∷ []) ∷
+    on line (0x10 ∷ replicate 7 x) (0x30 ∷ []) ∷
+    on line (0x07 ∷ replicate 4 x) (0x20 ∷ []) ∷
+    []

@@ -1,9 +1,9 @@
 -- Document 01's examples A to J over the exported message call at full size, each from power-up, as ONE statement over a list. Computed.
 use mathlib.Core.Path.{_≡_, refl}
-use mathlib.Core.List.{List, [], _∷_, map}
-use lib.ListN.{replicate}
+use mathlib.Core.List.{List, [], _∷_, _++_, map}
+use lib.ListN.{take, drop}
 use Rattle.demand3.specs.Open.{opened}
-use Rattle.demand3.proofs.Conversation.{Case, on, gives, expected}
+use Rattle.demand3.proofs.Conversation.{Case, on, gives, expected, label-read, label-write}
 
 -- read lock
 unfoldable pub case-A : List Case
@@ -53,26 +53,7 @@ case-I =
 
 -- line 0 has the first part of a zero label; line 1 writes 32 bytes of 41; line 0 still gets zeros, the next read gets 41s
 unfoldable pub case-J : List Case
-case-J =
-    on 0 (0x40 ∷ 0x01 ∷ 0x20 ∷ 0x00 ∷ []) (0x41 ∷ 0x01 ∷ 0x20 ∷ 0x00 ∷ 0x20 ∷ []) ∷
-    on 0 (0x60 ∷ []) (0x00 ∷ []) ∷
-    on 1 (0x21 ∷ 0x01 ∷ 0x20 ∷ 0x00 ∷ 0x20 ∷ []) (0x60 ∷ 0x01 ∷ 0x20 ∷ 0x00 ∷ []) ∷
-    on 1 (0x00 ∷ replicate 7 0x41) (0x20 ∷ []) ∷
-    on 1 (0x10 ∷ replicate 7 0x41) (0x30 ∷ []) ∷
-    on 1 (0x00 ∷ replicate 7 0x41) (0x20 ∷ []) ∷
-    on 1 (0x10 ∷ replicate 7 0x41) (0x30 ∷ []) ∷
-    on 1 (0x07 ∷ replicate 4 0x41) (0x20 ∷ []) ∷
-    on 0 (0x70 ∷ []) (0x10 ∷ []) ∷
-    on 0 (0x60 ∷ []) (0x00 ∷ []) ∷
-    on 0 (0x70 ∷ []) (0x10 ∷ []) ∷
-    on 0 (0x60 ∷ []) (0x07 ∷ []) ∷
-    on 0 (0x40 ∷ 0x01 ∷ 0x20 ∷ 0x00 ∷ []) (0x41 ∷ 0x01 ∷ 0x20 ∷ 0x00 ∷ 0x20 ∷ []) ∷
-    on 0 (0x60 ∷ []) (0x00 ∷ replicate 7 0x41) ∷
-    on 0 (0x70 ∷ []) (0x10 ∷ replicate 7 0x41) ∷
-    on 0 (0x60 ∷ []) (0x00 ∷ replicate 7 0x41) ∷
-    on 0 (0x70 ∷ []) (0x10 ∷ replicate 7 0x41) ∷
-    on 0 (0x60 ∷ []) (0x07 ∷ replicate 4 0x41) ∷
-    []
+case-J = take 2 (label-read 0 0) ++ (label-write 1 0x41 ++ (drop 2 (label-read 0 0) ++ label-read 0 0x41))
 
 unfoldable pub cases : List (List Case)
 cases = case-A ∷ case-B ∷ case-C ∷ case-D ∷ case-E ∷ case-F ∷ case-G ∷ case-H ∷ case-I ∷ case-J ∷ []

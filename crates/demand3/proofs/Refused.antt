@@ -2,13 +2,13 @@
 use Prim.Native.Nat.{ℕ, _/_}
 use native.Mathlib.Omega.{arith}
 use mathlib.Core.Path.{_≡_, sym, ap, _∙_}
-use mathlib.Core.List.{List, [], _∷_}
+use mathlib.Core.List.{List, [], _∷_, _++_}
 use lib.ListN.{take, getD, replicate}
 use Rattle.board.specs.Calls.{Called}
 use Rattle.demand3.specs.Firmware.{Arrays}
 use Rattle.demand3.specs.Promised.{Given, Meets}
 use Rattle.demand3.specs.Open.{opened}
-use Rattle.demand3.proofs.Conversation.{Case, on, shown, powered, left-by}
+use Rattle.demand3.proofs.Conversation.{Case, shown, powered, left-by, label-read, label-write}
 
 -- a message on line 0 to a board with these arrays
 abbrev given : Arrays → List ℕ → Given
@@ -50,17 +50,10 @@ forgetful-refused board keeps h =
 -- ONE THAT SERVES THE OPENING AND FAKES THE LATER PARTS: what it answers to a request for a part comes from the message alone. A label of
 -- zeros and a label of 41s have other first parts
 opening : List Case
-opening = on 0 (0x40 ∷ 0x01 ∷ 0x20 ∷ []) (0x41 ∷ 0x01 ∷ 0x20 ∷ 0x00 ∷ 0x20 ∷ []) ∷ []
+opening = take 1 (label-read 0 0)
 
 labelled : List Case
-labelled =
-    on 1 (0x21 ∷ 0x01 ∷ 0x20 ∷ 0x00 ∷ 0x20 ∷ []) (0x60 ∷ 0x01 ∷ 0x20 ∷ []) ∷
-    on 1 (0x00 ∷ replicate 7 0x41) (0x20 ∷ []) ∷
-    on 1 (0x10 ∷ replicate 7 0x41) (0x30 ∷ []) ∷
-    on 1 (0x00 ∷ replicate 7 0x41) (0x20 ∷ []) ∷
-    on 1 (0x10 ∷ replicate 7 0x41) (0x30 ∷ []) ∷
-    on 1 (0x07 ∷ replicate 4 0x41) (0x20 ∷ []) ∷
-    opening
+labelled = label-write 1 0x41 ++ opening
 
 pub faker-refused : (board : Given → Called) (fake : List ℕ → List ℕ)
     → ((i : Given) → getD (i .message) 0 0 / 32 ≡ 3 → answer-of (board i) ≡ fake (i .message)) → Meets board → ⊥

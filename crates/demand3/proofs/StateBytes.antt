@@ -1,19 +1,19 @@
 -- THE STATE BYTES GIVE BACK WHAT WAS WRITTEN: a record and the trip states are read back, and what stands beside them is left alone.
-use Prim.Native.Nat.{ℕ, _+_, _≤_, _<_}
+use Prim.Native.Nat.{ℕ, _+_, _≤_}
 use native.Mathlib.Omega.{arith}
 use mathlib.Core.Path.{_≡_, refl, sym, ap, _∙_}
 use mathlib.Core.Logic.{_⊎_, inl, inr}
-use mathlib.Core.Bool.{Bool, true, not, or-true}
+use mathlib.Core.Bool.{Bool, not}
 use mathlib.Core.List.{List, _++_, append-assoc}
-use lib.Dec.{eqb, leb}
+use lib.Dec.{eqb}
 use lib.ListN.{length, take, drop, length-append, length-drop}
 use lib.Seq.{take-at, drop-at, drop-drop, length-take-le, drop-append-le, take-append-le}
 use borrow.Author.Tests.{le-leb}
-use Rattle.wire.specs.Splice.{splice, apart}
+use Rattle.wire.specs.Splice.{splice}
 use Rattle.wire.specs.Little.{little, fromLittle, number}
 use Rattle.wire.specs.Flags.{is-set, bit}
-use Rattle.wire.proofs.SpliceLaws.{part-apart}
-use Rattle.wire.proofs.LittleLaws.{length-little, number-apart}
+use Rattle.wire.proofs.SpliceLaws.{is-apart, part-apart}
+use Rattle.wire.proofs.LittleLaws.{length-little, from-little, number-apart}
 use Rattle.wire.proofs.FlagLaws.{set-back}
 use Rattle.trip.specs.declared.Trips.{Trips}
 use Rattle.sdo.specs.declared.Direction.{Direction}
@@ -39,10 +39,6 @@ number-inside : (s : List ℕ) (at : ℕ) (vs : List ℕ) (k n : ℕ) → at ≤
 unfolding number
 number-inside s at vs k n h q = ap fromLittle (part-inside s at vs k n h q)
 
-far : (p n q m : ℕ) → (p + n ≤ q) ⊎ (q + m ≤ p) → apart p n q m ≡ true
-far p n q m (inl h) = rw (le-leb (p + n) q h)
-far p n q m (inr h) = rw (le-leb (q + m) p h) (or-true (leb (p + n) q))
-
 -- ---- a record
 
 fields : {h h′ : List ℕ} {r r′ l l′ p p′ : ℕ} {d d′ : Direction} {u u′ : Bool} → h ≡ h′ → r ≡ r′ → d ≡ d′ → l ≡ l′ → p ≡ p′ → u ≡ u′
@@ -62,14 +58,6 @@ unfolding direction-of direction-byte little fromLittle
 direction-back Neither = refl
 direction-back Reads = refl
 direction-back Writes = refl
-
-byte-back : (n : ℕ) → n < 256 → fromLittle (little 1 n) ≡ n
-unfolding little fromLittle
-byte-back n h = omega arith
-
-word-back : (n : ℕ) → n < 65536 → fromLittle (little 2 n) ≡ n
-unfolding little fromLittle
-word-back n h = omega arith
 
 module _ (s : List ℕ) (at : ℕ) (t : Transfer) (w : Whole t) (small : Small t) (room : at + 70 ≤ length s) where
   abbrev written : List ℕ
@@ -92,17 +80,17 @@ module _ (s : List ℕ) (at : ℕ) (t : Transfer) (w : Whole t) (small : Small t
   unfolding record-at record-tail number little
   record-back =
       fields held-back
-      (tail-back 0 2 (omega arith) ∙ word-back (t .row) (small .row-fits))
+      (tail-back 0 2 (omega arith) ∙ from-little 2 (t .row) (small .row-fits))
       (ap direction-of (tail-back 2 1 (omega arith)) ∙ direction-back (t .direction))
-      (tail-back 3 1 (omega arith) ∙ byte-back (t .len) (small .len-fits))
-      (tail-back 4 1 (omega arith) ∙ byte-back (t .place) (small .place-fits))
+      (tail-back 3 1 (omega arith) ∙ from-little 1 (t .len) (small .len-fits))
+      (tail-back 4 1 (omega arith) ∙ from-little 1 (t .place) (small .place-fits))
       (set-back written (at + 69) (t .toggle) (tail-back 5 1 (omega arith)))
 
 -- LAW: a record is left alone by what is written beside it
 pub record-beside : (s : List ℕ) (p : ℕ) (vs : List ℕ) (at : ℕ) → p ≤ length s → (p + length vs ≤ at) ⊎ (at + 70 ≤ p) → record-at (splice s p vs) at ≡ record-at s at
 unfolding record-at is-set
 record-beside s p vs at h b =
-    fields (part-apart s p vs (le-leb p (length s) h) at 64 (far p (length vs) at 64 (first b)))
+    fields (part-apart s p vs (le-leb p (length s) h) at 64 (is-apart p (length vs) at 64 (first b)))
     (at-field 64 2 (omega arith))
     (ap direction-of (at-field 66 1 (omega arith)))
     (at-field 67 1 (omega arith))
@@ -118,7 +106,7 @@ record-beside s p vs at h b =
     first (inr x) = inr (omega arith)
 
     at-field : (k n : ℕ) → k + n ≤ 70 → number (splice s p vs) (at + k) n ≡ number s (at + k) n
-    at-field k n q = number-apart s p vs (at + k) n (le-leb p (length s) h) (far p (length vs) (at + k) n (from k n q b))
+    at-field k n q = number-apart s p vs (at + k) n (le-leb p (length s) h) (is-apart p (length vs) (at + k) n (from k n q b))
 
 -- ---- the trip states
 
@@ -146,4 +134,4 @@ trips-beside s p vs h b = sides (side 0) (side 1) (side 2) (side 3)
     side : (k : ℕ) → not (eqb (number (splice s p vs) (trips-place + k) 1) 0) ≡ not (eqb (number s (trips-place + k) 1) 0)
     side k =
         let q : p + length vs ≤ trips-place + k = omega arith in
-        ap (λ (n : ℕ). not (eqb n 0)) (number-apart s p vs (trips-place + k) 1 (le-leb p (length s) h) (far p (length vs) (trips-place + k) 1 (inl q)))
+        ap (λ (n : ℕ). not (eqb n 0)) (number-apart s p vs (trips-place + k) 1 (le-leb p (length s) h) (is-apart p (length vs) (trips-place + k) 1 (inl q)))

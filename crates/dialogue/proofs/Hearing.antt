@@ -9,15 +9,12 @@ use lib.Dec.{leb, ltb, eqb}
 use lib.ListN.{length, take, getD, set, replicate, length-append, length-set, length-take}
 use lib.Seq.{take-all, take-suc-set, take-append-le}
 use borrow.Author.Tests.{ltb-true, ltb-false, leb-true, leb-false, ne-eqb, lt-ltb, le-ltb}
+use Rattle.wire.proofs.FlagLaws.{by-test}
 use Rattle.dialogue.specs.declared.Pending.{Pending}
 use Rattle.dialogue.specs.Text.{no-message, is-message, read, without-return, spoken}
 use Rattle.dialogue.specs.Lines.{lines, lines-from, nothing-yet, extended, after, pending-spoken, left-over, told}
 
 -- ---- a line of more than nineteen bytes is no message, whatever it is
-
-by-test : {A : Type 0} (t : Bool) → (t ≡ true → A) → (t ≡ false → A) → A
-by-test true f g = f refl
-by-test false f g = g refl
 
 long-read : (l : List ℕ) → 18 < length l → read l ≡ no-message
 unfolding read is-message

@@ -1,8 +1,8 @@
 -- Laws of one row's entry and of all defaults: what was stored is read back, bytes beside it stay, lengths stay. They hold for any rows.
 use mathlib.Core.Path.{_≡_, refl, sym, ap, _∙_}
-use mathlib.Core.Bool.{true, or-true}
+use mathlib.Core.Bool.{true}
 use mathlib.Core.List.{List, [], _∷_}
-use mathlib.Core.Logic.{_⊎_, inr, ⊎-elim}
+use mathlib.Core.Logic.{_⊎_, inr}
 use Prim.Native.Nat.{ℕ, zero, suc, zero-le, suc-le-suc, _+_, _<_, _≤_}
 use native.Mathlib.Nat.{le-of-suc-le-suc, not-suc-le-zero, add-zero}
 use native.Mathlib.Omega.{arith}
@@ -10,9 +10,8 @@ use lib.ListN.{length, take, drop, getD, replicate}
 use lib.Seq.{getD-take, getD-drop}
 use lib.Dec.{leb}
 use borrow.Author.Tests.{le-leb}
-use Rattle.wire.specs.Splice.{apart}
 use Rattle.wire.specs.Little.{little}
-use Rattle.wire.proofs.SpliceLaws.{length-splice, part-length, part-same, part-apart, at-above}
+use Rattle.wire.proofs.SpliceLaws.{length-splice, part-length, is-apart, part-same, part-apart, at-above}
 use Rattle.wire.proofs.LittleLaws.{length-little}
 use Rattle.table.specs.Row.{Row, no-row}
 use Rattle.table.specs.Rule.{held}
@@ -23,12 +22,6 @@ use Rattle.entry.specs.Entry.{entry-of, copied, stored, default-of, defa
 -- the m bytes from q on are none of the row's
 abbrev pub Beside : Row → ℕ → ℕ → Type 0
 Beside r q m = (r .place + held r ≤ q) ⊎ (q + m ≤ r .place)
-
-apart-left : (p n q m : ℕ) → p + n ≤ q → apart p n q m ≡ true
-apart-left p n q m h = simp (le-leb (p + n) q h)
-
-apart-right : (p n q m : ℕ) → q + m ≤ p → apart p n q m ≡ true
-apart-right p n q m h = simp (le-leb (q + m) p h) (or-true (leb (p + n) q))
 
 module _ (r : Row) (values bytes : List ℕ) (inside : r .place + held r ≤ length values) (fit : length bytes ≡ held r) where
   room : leb (r .place) (length values) ≡ true
@@ -47,11 +40,7 @@ module _ (r : Row) (values bytes : List ℕ) (inside : r .place + held r ≤ len
   pub stored-beside : (q m : ℕ) → Beside r q m → take m (drop q (stored r values bytes)) ≡ take m (drop q values)
   unfolding stored
   stored-beside q m b =
-      part-apart values (r .place) bytes room q m
-      (⊎-elim
-      (λ h. apart-left (r .place) (length bytes) q m (omega arith))
-      (λ h. apart-right (r .place) (length bytes) q m (omega arith))
-      b)
+      part-apart values (r .place) bytes room q m (rw fit (is-apart (r .place) (held r) q m b))
 
   -- and so another row's entry
   pub stored-other : (q : Row) → Beside r (q .place) (held q) → entry-of q (stored r values bytes) ≡ entry-of q values

@@ -7,17 +7,11 @@ use lib.ListN.{length, length-append}
 use Rattle.wire.specs.Splice.{splice}
 use Rattle.wire.specs.Little.{little, number, put-number}
 use Rattle.wire.specs.Flags.{is-set, bit}
-use Rattle.wire.proofs.SpliceLaws.{splice-then}
+use Rattle.wire.proofs.SpliceLaws.{splice-behind}
 use Rattle.wire.proofs.LittleLaws.{Bytes, length-little, little-append, number-lt}
 use Rattle.wire.proofs.FlagLaws.{bit-lt}
 use Rattle.table.specs.Places.{input-value, reading-valid, overrange, underrange, summary-byte, trip-outputs}
 use Rattle.sample.specs.Image.{mapped, in-order, mapping, image-of}
-
--- a splice, and a number behind it
-behind : (o xs : List ℕ) (at n v : ℕ) → length xs ≡ at → at + n ≤ length o → put-number (splice o 0 xs) at n v ≡ splice o 0 (xs ++ little n v)
-behind o xs at n v e h =
-    let z : 0 + length xs ≡ at = omega arith in
-    rw z at (splice-then o 0 xs (little n v) (omega (arith, length-little n v)))
 
 -- 8, 32, 8 and 32 bits are 80
 eighty : (a b c d : ℕ) → a < 2 ^ 8 → b < 2 ^ 32 → c < 2 ^ 8 → ((little 1 a ++ little 4 b) ++ little 1 c) ++ little 4 d ≡ little 10 (a + 2 ^ 8 * (b + 2 ^ 32 * (c + 2 ^ 8 * d)))
@@ -36,9 +30,9 @@ put-four o a b c d room ha hb hc =
     let ex : length x ≡ 1 = length-little 1 a in
     let ey : length y ≡ 5 = simp (length-append, length-little) in
     let ez : length z ≡ 6 = simp (length-append, length-little) in
-    ap (λ (r : List ℕ). put-number (put-number r 5 1 c) 6 4 d) (behind o x 1 4 b ex (omega arith))
-    ∙ ap (λ (r : List ℕ). put-number r 6 4 d) (behind o y 5 1 c ey (omega arith))
-    ∙ behind o z 6 4 d ez (omega arith)
+    ap (λ (r : List ℕ). put-number (put-number r 5 1 c) 6 4 d) (splice-behind o 0 x (little 4 b) 1 (omega arith) (omega (arith, length-little 4 b)))
+    ∙ ap (λ (r : List ℕ). put-number r 6 4 d) (splice-behind o 0 y (little 1 c) 5 (omega arith) (omega (arith, length-little 1 c)))
+    ∙ splice-behind o 0 z (little 4 d) 6 (omega arith) (omega (arith, length-little 4 d))
     ∙ ap (splice o 0) (eighty a b c d ha hb hc)
 
 -- seven entries in their order, the three flags in one byte

@@ -13,7 +13,7 @@ use Rattle.wire.specs.Little.{little, fromLittle, number}
 use Rattle.wire.specs.Real.{real}
 use Rattle.wire.specs.Flags.{is-set, bit}
 use Rattle.wire.proofs.LittleLaws.{Bytes, from-little, number-lt}
-use Rattle.wire.proofs.FlagLaws.{bit-lt, set-back}
+use Rattle.wire.proofs.FlagLaws.{by-test, bit-lt, set-back}
 use Rattle.wire.proofs.Writes.{Write, write, written, within, tidy, shown, number-shown}
 use Rattle.trip.specs.declared.Trips.{Trips}
 use Rattle.trip.specs.Trip.{usable-pressure}
@@ -70,10 +70,6 @@ tripped t ws =
 abbrev faulted : ℕ → ℕ → List Write → List Write
 faulted active latched ws = write sensor-error 2 active ∷ write active-word 4 active ∷ write latched-word 4 latched ∷ ws
 
-by-cases : {X : Type 0} (b : Bool) → (b ≡ true → X) → (b ≡ false → X) → X
-by-cases true y n = y refl
-by-cases false y n = n refl
-
 module _ (l : List ℕ) (was : Trips) (p : Float) (valid : ℕ) where
   -- the writes of a sample whose pressure is usable or not, and some more
   abbrev steps : Bool → List Write → List Write
@@ -97,7 +93,7 @@ module _ (l : List ℕ) (was : Trips) (p : Float) (valid : ℕ) where
     each : (q m v : ℕ) → fine ws q m ≡ true → shown (steps true ws) q m (number l q m) ≡ v → shown (steps false ws) q m (number l q m) ≡ v → number x q m ≡ v
     each q m v k e f =
         let both = and-eq-true-iff (within 1024 (steps true ws) && tidy (steps true ws) q m) _ .0 k in
-        by-cases (usable-pressure p valid) (λ y. case true y q m (both .0) ∙ e) (λ n. case false n q m (both .1) ∙ f)
+        by-test (usable-pressure p valid) (λ y. case true y q m (both .0) ∙ e) (λ n. case false n q m (both .1) ∙ f)
 
 module _ (l : List ℕ) (was : Trips) (p : Float) (valid faults seconds : ℕ) (h : length l ≡ 1024) where
   -- the values after reading and trips, and those after the faults too
@@ -163,7 +159,7 @@ module _ (l : List ℕ) (was : Trips) (p : Float) (valid faults seconds : ℕ) (
 
   pub valid-shown : number (values-after l was p valid faults seconds) reading-valid 1 ≡ bit (usable-pressure p valid)
   valid-shown =
-      by-cases (usable-pressure p valid)
+      by-test (usable-pressure p valid)
       (λ e. rw e (case l was p valid h _ all-writes all-by true e reading-valid 1 refl ∙ from-little 1 1 (omega arith)))
       (λ e. rw e (case l was p valid h _ all-writes all-by false e reading-valid 1 refl ∙ from-little 1 0 (omega arith)))
 

@@ -31,19 +31,19 @@ long-code = record { fits = omega arith; not-transfer = refl; not-toggle = refl 
 short-code : Code tooShort
 short-code = record { fits = omega arith; not-transfer = refl; not-toggle = refl }
 
+-- a refused write has a code, and so has an entry that is closed
+unfoldable pub Coded : {S : Type 0} → Outcome S → Type 0
+Coded (stored g) = Unit {0}
+Coded (restarted g) = Unit {0}
+Coded (declined c) = Code c
+
+unfoldable pub CodedSizes : Sizes → Type 0
+CodedSizes (sizes low high) = Unit {0}
+CodedSizes (closed c) = Code c
+
 module _ (E : Entries) (S : Sound E) where
   abbrev P : Gauge
   P = gauge E
-
-  -- the code of a refused write
-  Coded : Outcome (E .Store) → Type 0
-  Coded (stored g) = Unit {0}
-  Coded (restarted g) = Unit {0}
-  Coded (declined c) = Code c
-
-  CodedSizes : Sizes → Type 0
-  CodedSizes (sizes low high) = Unit {0}
-  CodedSizes (closed c) = Code c
 
   commit-coded : (g : E .Store) (k : Key) (bytes : List ℕ) (r : Outcome (E .Store)) → E .commit g k bytes ≡ r → Coded r
   unfolding Coded

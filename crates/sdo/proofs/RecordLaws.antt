@@ -6,8 +6,8 @@ use mathlib.Core.Logic.{_⊎_, inl, inr}
 use mathlib.Core.Bool.{Bool, true, false, cond, and-eq-true-iff}
 use mathlib.Core.List.{List, _++_}
 use lib.Dec.{eqb, ltb}
-use lib.ListN.{length, take, drop, length-append, length-drop, length-take}
-use lib.Seq.{take-at}
+use lib.ListN.{length, drop, length-append, length-drop}
+use lib.Seq.{take-at, length-take-le}
 use borrow.Author.Tests.{lt-ltb, eq-eqb, le-leb, ltb-true, eqb-true, leb-true}
 use Rattle.order.specs.Talk.{Request, openRead, nextPart, expedited, openWrite, sendPart, giveUp, unknown, Pending, idle, reading, writing}
 use Rattle.table.specs.Rows.{row-count, at-row}
@@ -99,17 +99,14 @@ view-lay t (writing k low high sent u) v =
 abbrev pub Whole : Transfer → Type 0
 Whole t = length (t .held) ≡ 64
 
-length-in : (n : ℕ) (l : List ℕ) → n ≤ 64 → length l ≡ 64 → length (take n l) ≡ n
-length-in n l h e = rw length-take (omega arith)
-
 valid-pending : (d : Direction) (t : Transfer) → Whole t → Fits d (t .row) (keyAt (t .row)) (t .len) (t .place) → Valid (t .row) (pending d t)
 unfolding pending
 valid-pending Neither t w f = tt
-valid-pending Reads t w f = rw (length-in (t .len) (t .held) (at-most-64 f) w) f
+valid-pending Reads t w f = rw (length-take-le (t .len) (t .held) (omega (arith, at-most-64 f))) f
 valid-pending Writes t w f =
     let n : t .len ≤ 64 = at-most-64 f in
     let p : t .place ≤ t .len = f .place-in in
-    (refl, rw (length-in (t .place) (t .held) (omega arith) w) f)
+    (refl, rw (length-take-le (t .place) (t .held) (omega arith)) f)
 
 pub valid-view : (t : Transfer) → Whole t → Valid (t .row) (view t)
 unfolding view

@@ -9,15 +9,12 @@ use lib.Dec.{eqb}
 use lib.ListN.{length, take, replicate, length-append, length-replicate}
 use lib.Seq.{take-at}
 use Rattle.wire.specs.Little.{little, fromLittle, number}
-use Rattle.wire.proofs.LittleLaws.{from-little}
+use Rattle.wire.proofs.LittleLaws.{byte-split, from-little}
 use Rattle.order.specs.Talk.{Answer, opened, partGiven, writeOpened, partTaken, refused, wrongToggle, noTransfer, silent}
 use Rattle.sdo.specs.declared.Key.{Key}
 use Rattle.sdo.specs.Eight.{bit, one, transferCode, toggleCode, answerOf, tellOf, Carried}
 
 -- the index is read back from its bytes
-index-back : (i : ℕ) → i % 256 + 256 * (i / 256) ≡ i
-index-back i = omega arith
-
 -- and a number of four bytes behind the key
 number-back : (a b c d n : ℕ) → n < 0x1_0000_0000 → number (a ∷ b ∷ c ∷ d ∷ little 4 n) 4 4 ≡ n
 unfolding number little fromLittle
@@ -26,10 +23,10 @@ number-back a b c d n h = from-little 4 n h
 round-opened : (k : Key) (n : ℕ) (bytes : List ℕ) → n ≡ length bytes → 1 ≤ length bytes → length bytes ≤ 4 → tellOf (answerOf (opened k n bytes true)) ≡ opened k n bytes true
 unfolding tellOf answerOf
 round-opened k n [] e p q = absurd (omega arith)
-round-opened k n (a ∷ []) e p q = rw (e, index-back (k .index))
-round-opened k n (a ∷ b ∷ []) e p q = rw (e, index-back (k .index))
-round-opened k n (a ∷ b ∷ c ∷ []) e p q = rw (e, index-back (k .index))
-round-opened k n (a ∷ b ∷ c ∷ d ∷ []) e p q = rw (e, index-back (k .index))
+round-opened k n (a ∷ []) e p q = rw (e, byte-split (k .index))
+round-opened k n (a ∷ b ∷ []) e p q = rw (e, byte-split (k .index))
+round-opened k n (a ∷ b ∷ c ∷ []) e p q = rw (e, byte-split (k .index))
+round-opened k n (a ∷ b ∷ c ∷ d ∷ []) e p q = rw (e, byte-split (k .index))
 round-opened k n (a ∷ b ∷ c ∷ d ∷ x ∷ bytes) e p q = absurd (omega arith)
 
 -- the first byte of a part: its class, its toggle, its unused bytes, its last mark
@@ -62,14 +59,14 @@ round-part t last bytes h =
 pub round : (t : Answer Key) → Carried t → tellOf (answerOf t) ≡ t
 unfolding tellOf answerOf
 round (opened k n bytes true) h = round-opened k n bytes (h .0) (h .1) (h .2)
-round (opened k n bytes false) h = rw (index-back (k .index), number-back 0x41 (k .index % 256) (k .index / 256) (k .sub) n (h .1), h .0)
+round (opened k n bytes false) h = rw (byte-split (k .index), number-back 0x41 (k .index % 256) (k .index / 256) (k .sub) n (h .1), h .0)
 round (partGiven t bytes last) h = round-part t last bytes h
-round (writeOpened k) h = rw (index-back (k .index))
+round (writeOpened k) h = rw (byte-split (k .index))
 round (partTaken true) h = refl
 round (partTaken false) h = refl
 round (refused k c) h =
-    rw (index-back (k .index), number-back 0x80 (k .index % 256) (k .index / 256) (k .sub) c (h .fits), h .not-transfer, h .not-toggle)
-round (wrongToggle k) h = rw (index-back (k .index), number-back 0x80 (k .index % 256) (k .index / 256) (k .sub) toggleCode (omega arith))
+    rw (byte-split (k .index), number-back 0x80 (k .index % 256) (k .index / 256) (k .sub) c (h .fits), h .not-transfer, h .not-toggle)
+round (wrongToggle k) h = rw (byte-split (k .index), number-back 0x80 (k .index % 256) (k .index / 256) (k .sub) toggleCode (omega arith))
 round noTransfer h = rw (number-back 0x80 0 0 0 transferCode (omega arith))
 round silent h = refl
 

@@ -29,6 +29,7 @@ use Rattle.sdo.specs.Eight.{askOf, answerOf}
 use Rattle.sdo.specs.Lines.{Entries, gauge, short, eight}
 use Rattle.sdo.specs.Records.{allZero, keyAt, rowNumber, counts, pending, view, zeroAt, base, lay, spoken, speak}
 use Rattle.sdo.specs.Replies.{Reply, ending, going, committing, refusal, is-reading, is-writing, givenReply, nextPartReply, grown, takenReply, sendPartReply, openedRecord, filled, openReadReply, openWriteBy, openWriteReply, expeditedBy, expeditedReply, concluded, actedBy, acted}
+use Rattle.sdo.proofs.ReplyLaws.{filled-value}
 use Rattle.sdo.proofs.RecordLaws.{at-most-64, counts-fits, found-key, found-number, Whole}
 
 module _ (E : Entries) where
@@ -155,10 +156,6 @@ module _ (E : Entries) where
     -- ---- openings, of a row
 
     module _ (row : ℕ) where
-      take-filled : (bytes : List ℕ) (n : ℕ) → length bytes ≡ n → take n (filled bytes) ≡ bytes
-      unfolding splice
-      take-filled bytes n e = take-at bytes (drop (0 + length bytes) (replicate 64 0)) n e
-
       lay-opened : (bytes : List ℕ) → lay (zeroAt row) (reading (keyAt row) bytes 0 false) ≡ openedRecord Reads row (filled bytes) (length bytes)
       unfolding lay splice
       lay-opened bytes = rw (zero-add (length bytes))
@@ -177,7 +174,7 @@ module _ (E : Entries) where
               → spoken E (zeroAt row)
               (cond d (over P g (opened k′ n (take (cond d n 0) bytes) true)) (onwards P g (reading k′ bytes (cond d n 0) false) (opened k′ n (take (cond d n 0) bytes) false)))
               ≡ acted E g (pick d (ending (answerOf (opened k′ n (take n (filled bytes)) true))) (going (answerOf (opened k′ n [] false)) (openedRecord Reads row (filled bytes) n)))
-          go true = over-spoken (zeroAt row) _ ∙ ap (λ (l : List ℕ). acted E g (ending (answerOf (opened k′ n l true)))) (take-length bytes ∙ sym (take-filled bytes n refl))
+          go true = over-spoken (zeroAt row) _ ∙ ap (λ (l : List ℕ). acted E g (ending (answerOf (opened k′ n l true)))) (take-length bytes ∙ sym (filled-value bytes n refl))
           go false = onwards-spoken (zeroAt row) (openedRecord Reads row (filled bytes) n) _ _ (lay-opened bytes)
 
       lay-begun : (low high : ℕ) → lay (zeroAt row) (writing (keyAt row) low high [] false) ≡ openedRecord Writes row (replicate 64 0) high
@@ -195,7 +192,7 @@ module _ (E : Entries) where
       value-by : (n : ℕ) (bytes : List ℕ)
           → spoken E allZero (conclude P g (keyAt row) (writeOpened (keyAt row)) (judged P g (keyAt row) n n bytes)) ≡ acted E g (expeditedBy row (sizes n n) bytes)
       unfolding expeditedBy
-      value-by n bytes = judged-spoken allZero (openedRecord Writes row (filled bytes) n) bytes (writeOpened (keyAt row)) (take-filled bytes n)
+      value-by n bytes = judged-spoken allZero (openedRecord Writes row (filled bytes) n) bytes (writeOpened (keyAt row)) (filled-value bytes n)
 
       refused-by : (b : Transfer) (c : ℕ) (bytes : List ℕ) → spoken E b (conclude P g (keyAt row) (writeOpened (keyAt row)) (declined c)) ≡ acted E g (expeditedBy row (closed c) bytes)
       unfolding expeditedBy concluded actedBy

@@ -10,14 +10,14 @@ use Rattle.wire.specs.Splice.{splice}
 use Rattle.wire.specs.Little.{little, number}
 use Rattle.wire.specs.Flags.{is-set, bit}
 use Rattle.wire.proofs.LittleLaws.{length-little}
-use Rattle.wire.proofs.SpliceLaws.{length-splice, splice-whole, part-length}
+use Rattle.wire.proofs.SpliceLaws.{length-splice, splice-whole, splice-behind, part-length}
 use Rattle.wire.proofs.Overlaps.{splice-inside}
 use Rattle.sdo.specs.declared.Direction.{Direction}
 use Rattle.sdo.specs.declared.Transfer.{Transfer}
 use Rattle.sdo.specs.Records.{allZero}
 use Rattle.sdo.specs.Replies.{grown}
 use Rattle.state.specs.State.{direction-of, direction-byte, record-at, record-tail, record-bytes}
-use Rattle.wire.proofs.InARow.{then, four-in-a-row}
+use Rattle.wire.proofs.InARow.{four-in-a-row}
 
 pub record-read : (s : List ℕ) (at : ℕ) {held : List ℕ} {row len place : ℕ} {d : Direction} {toggle : Bool} → at + 70 ≤ length s
     → held ≡ splice (replicate 64 0) 0 (take 64 (drop at s)) → row ≡ number s (at + 64) 2 → d ≡ direction-of (number s (at + 66) 1)
@@ -39,7 +39,7 @@ module _ (l : List ℕ) (at : ℕ) (t : Transfer) (room : at + 70 ≤ length l) 
       rw (e₅, e₄, e₃, e₂, e₁, ed, eb)
       (rw (
         four-in-a-row l (at + 64) (at + 66) (at + 67) (at + 68) 2 (t .row) (direction-byte (t .direction)) (t .len) (t .place) (omega arith) (omega arith) (omega arith) (omega arith),
-        then l (at + 64) (at + 69) four (little 1 (bit (t .toggle))) (omega arith) (omega arith),
+        splice-behind l (at + 64) four (little 1 (bit (t .toggle))) (at + 69) (omega arith) (omega arith),
       )
       (simp append-assoc))
 
@@ -49,7 +49,7 @@ module _ (l : List ℕ) (at : ℕ) (t : Transfer) (room : at + 70 ≤ length l) 
   record-put n e₁ e₂ =
       let tail : List ℕ = record-tail t in
       let long : length tail ≡ 6 = simp (length-append, length-little) in
-      rw (e₂, e₁, take-all 64 (t .held) (omega arith)) (then l at (at + 64) (t .held) tail (omega arith) (omega arith))
+      rw (e₂, e₁, take-all 64 (t .held) (omega arith)) (splice-behind l at (t .held) tail (at + 64) (omega arith) (omega arith))
 
 -- a part of a write: its bytes, and what stands behind the held ones
 pub part-put : (l : List ℕ) (at : ℕ) (t : Transfer) (bytes : List ℕ) → at + 70 ≤ length l → t ≡ record-at l at → t .place + length bytes ≤ 64
@@ -63,7 +63,7 @@ part-put l at t bytes room is fits e₁ en e₂ =
     let tail : List ℕ = record-tail (grown t bytes) in
     let long : length tail ≡ 6 = simp (length-append, length-little) in
     let s : splice l at h ≡ splice l (at + t .place) bytes = rw held (splice-inside l at 64 (t .place) bytes (omega arith) fits) in
-    e₂ ∙ rw (e₁, en) (rw (← s) (then l at (at + 64) h tail (omega arith) (omega arith)))
+    e₂ ∙ rw (e₁, en) (rw (← s) (splice-behind l at h tail (at + 64) (omega arith) (omega arith)))
 
 -- an ended transfer's record
 pub record-cleared : (l : List ℕ) (at : ℕ) {l′ : List ℕ} → l′ ≡ splice l at (take 70 (drop 0 (replicate 70 0))) → l′ ≡ splice l at (record-bytes allZero)

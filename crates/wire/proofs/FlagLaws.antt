@@ -1,4 +1,4 @@
--- Flags: what fits, and a flag that was written is read back. Assumes nothing.
+-- Flags: by cases, what fits, and a flag that was written is read back. Assumes nothing.
 use mathlib.Core.Bool.{Bool, true, false, not}
 use mathlib.Core.Path.{_≡_, refl}
 use mathlib.Core.List.{List}
@@ -9,6 +9,10 @@ use Rattle.wire.specs.Little.{little, fromLittle, number}
 use Rattle.wire.specs.Flags.{is-set, bit, flags}
 use Rattle.wire.proofs.LittleLaws.{from-little}
 use Rattle.wire.proofs.Stores.{little-4, apart-by}
+
+pub by-test : {A : Type 0} (t : Bool) → (t ≡ true → A) → (t ≡ false → A) → A
+by-test true f g = f refl
+by-test false f g = g refl
 
 pub bit-lt : (b : Bool) → bit b < 2
 bit-lt true = omega arith

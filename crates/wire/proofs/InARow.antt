@@ -6,11 +6,8 @@ use native.Mathlib.Omega.{arith}
 use lib.ListN.{length, length-append}
 use Rattle.wire.specs.Splice.{splice}
 use Rattle.wire.specs.Little.{little}
-use Rattle.wire.proofs.SpliceLaws.{splice-then}
+use Rattle.wire.proofs.SpliceLaws.{splice-behind}
 use Rattle.wire.proofs.LittleLaws.{length-little}
-
-pub then : (l : List ℕ) (at p : ℕ) (xs ys : List ℕ) → p ≡ at + length xs → p + length ys ≤ length l → splice (splice l at xs) p ys ≡ splice l at (xs ++ ys)
-then l at p xs ys e h = rw e (splice-then l at xs ys (omega arith))
 
 -- four numbers, the first of n bytes and the others of one
 pub four-in-a-row : (l : List ℕ) (at p q r n a b c d : ℕ) → p ≡ at + n → q ≡ at + n + 1 → r ≡ at + n + 2 → at + n + 3 ≤ length l
@@ -24,8 +21,8 @@ four-in-a-row l at p q r n a b c d ep eq er h =
     let lab : length (little n a ++ little 1 b) ≡ n + 1 = simp length-append (omega arith) in
     let labc : length ((little n a ++ little 1 b) ++ little 1 c) ≡ n + 2 = simp length-append (omega arith) in
     rw (
-      then l at p (little n a) (little 1 b) (omega arith) (omega arith),
-      then l at q (little n a ++ little 1 b) (little 1 c) (omega arith) (omega arith),
-      then l at r ((little n a ++ little 1 b) ++ little 1 c) (little 1 d) (omega arith) (omega arith),
+      splice-behind l at (little n a) (little 1 b) p (omega arith) (omega arith),
+      splice-behind l at (little n a ++ little 1 b) (little 1 c) q (omega arith) (omega arith),
+      splice-behind l at ((little n a ++ little 1 b) ++ little 1 c) (little 1 d) r (omega arith) (omega arith),
     )
     (ap (splice l at) (append-assoc (little n a ++ little 1 b) (little 1 c) (little 1 d) ∙ append-assoc (little n a) (little 1 b) (little 1 c ++ little 1 d)))

@@ -27,7 +27,7 @@ wider n =
     let e : 8 * suc n ≡ 8 + 8 * n = omega arith in
     rw e (pow-add 2 8 (8 * n))
 
-byte-split : (v : ℕ) → v % 256 + 256 * (v / 256) ≡ v
+pub byte-split : (v : ℕ) → v % 256 + 256 * (v / 256) ≡ v
 byte-split v = omega arith
 
 byte-fits : (v m : ℕ) → v < 256 * m → v / 256 < m

@@ -1,5 +1,6 @@
 -- The laws of `splice`: what it leaves, what it makes, and splices after each other. Assumes nothing.
-use mathlib.Core.Bool.{Bool, true, false, _||_}
+use mathlib.Core.Bool.{Bool, true, false, _||_, or-true}
+use mathlib.Core.Logic.{_⊎_, inl, inr}
 use mathlib.Core.Path.{_≡_, refl, sym, ap, _∙_}
 use mathlib.Core.List.{List, [], _∷_, _++_, append-assoc, append-nil}
 use Prim.Native.Nat.{ℕ, suc, _+_, _-_, _≤_, _<_}
@@ -8,7 +9,7 @@ use native.Mathlib.Omega.{arith}
 use lib.Dec.{leb, ltb}
 use lib.ListN.{length, take, drop, getD, set, length-append, length-take, length-drop, List·getD-append, take-append-drop}
 use lib.Seq.{take-at, drop-at, length-take-le, drop-drop, take-add, drop-append-le, take-append-le, drop-length, getD-drop, getD-take, getD-append-add, take-suc-set, drop-set-lt}
-use borrow.Author.Tests.{leb-true, ltb-true}
+use borrow.Author.Tests.{leb-true, ltb-true, le-leb}
 use Rattle.wire.specs.Splice.{splice, apart}
 
 pub length-splice : (l : List ℕ) (at : ℕ) (vs : List ℕ) → at + length vs ≤ length l → length (splice l at vs) ≡ length l
@@ -80,6 +81,10 @@ splice-then l at xs ys h =
     ∙ ap (λ (x : List ℕ). take at l ++ (xs ++ (ys ++ x))) f
     ∙ ap (λ (x : List ℕ). take at l ++ x) (sym (append-assoc xs ys (drop (at + length (xs ++ ys)) l)))
 
+-- the same, where the second's place is another term
+pub splice-behind : (l : List ℕ) (at : ℕ) (xs ys : List ℕ) (k : ℕ) → at + length xs ≡ k → k + length ys ≤ length l → splice (splice l at xs) k ys ≡ splice l at (xs ++ ys)
+splice-behind l at xs ys k e h = rw e at (splice-then l at xs ys (omega arith))
+
 -- the second stands before the first
 pub splice-front : (l : List ℕ) (at : ℕ) (xs ys : List ℕ) → at + length xs + length ys ≤ length l → splice (splice l (at + length xs) ys) at xs ≡ splice l at (xs ++ ys)
 unfolding splice
@@ -122,6 +127,10 @@ part-below l at vs q m h hl =
     let f : (r : List ℕ) → take m (drop q (take at l ++ r)) ≡ take m (drop q (take at l)) =
     λ r. ap (take m) (drop-append-le q (take at l) r (omega arith)) ∙ take-append-le m (drop q (take at l)) r (omega (arith, length-drop q (take at l))) in
     f (vs ++ drop (at + length vs) l) ∙ sym (f (drop at l)) ∙ ap (λ (x : List ℕ). take m (drop q x)) (take-append-drop at l)
+
+pub is-apart : (p n q m : ℕ) → (p + n ≤ q) ⊎ (q + m ≤ p) → apart p n q m ≡ true
+is-apart p n q m (inl h) = rw (le-leb (p + n) q h)
+is-apart p n q m (inr h) = rw (le-leb (q + m) p h) (or-true (leb (p + n) q))
 
 either : {C : Type 0} (a b : Bool) → (a || b) ≡ true → (a ≡ true → C) → (b ≡ true → C) → C
 either true b h f g = f refl

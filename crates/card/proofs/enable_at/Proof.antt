@@ -1,21 +1,23 @@
--- `enable_at` is `enable`: by whether the byte is 0.
-use mathlib.Core.Path.{sym, _∙_}
-use borrow.Author.Tests.{eq-eqb, ne-eqb}
-use Rattle.card.specs.Card.{enable}
+-- `enable_at` is `enable`: a flag in a wider type. Assumes nothing.
+use mathlib.Core.Path.{ap, _∙_}
 use borrow.Author.Needs.{needs}
+use Rattle.wire.specs.Flags.{bit}
+use Rattle.card.specs.Card.{enable}
 use Rattle.card.proofs.enable_at.Statement.{statement}
 use Rattle.card.proofs.enable_at.Tie as tie
 
-byte-at-requires : tie.Need-byte-at-requires
-byte-at-requires c κs = search needs
+is-set-requires : tie.Need-is-set-requires
+is-set-requires c κs = search needs
+
+bit-of-requires : tie.Need-bit-of-requires
+bit-of-requires c κs = search needs
+
+to-u32-requires : tie.Need-to-u32-requires
+to-u32-requires c κs = search needs
 
 returns : tie.Need-returns
 unfolding enable
-returns c = simp (eq-eqb _ 0 (sym (c .before .byte-at .ensures) ∙ c .if1 .taken))
-
-returns-2 : tie.Need-returns-2
-unfolding enable
-returns-2 c = simp (ne-eqb _ 0 (λ e. c .if1 .left (c .before .byte-at .ensures ∙ e)))
+returns c = c .to-u32 .ensures .0 ∙ c .before .bit-of .ensures .0 ∙ ap bit (c .before .before .is-set .ensures)
 
 pub enable-at-spec : {M : Type 1} → statement M
-enable-at-spec = tie.close (tie.spec byte-at-requires returns returns-2)
+enable-at-spec = tie.close (tie.spec is-set-requires bit-of-requires to-u32-requires returns)
