@@ -70,6 +70,7 @@ fn word_of(t: Trips) -> u8
     bit_of(one.high) + bit_of(one.low) * 2 + bit_of(two.high) * 4 + bit_of(two.low) * 8
 }
 
+// The status entries of both points stand in a row, a byte for each side.
 fn put_trips(values: &mut [u8], t: Trips)
     requires { ⌜ length (now values) ≡ 1024 ⌝ }
     ensures { λ _. ⌜ now (values .exit) ≡ with-trips t (now (values .entry)) ⌝ }
