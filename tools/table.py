@@ -6,8 +6,8 @@ holds the rows to the table's rule (and names the row that breaks it, which the 
 
     docs/object-table.md           the column Place
     crates/table/specs/Rows.antt   the rows, one line each
-    crates/table/src/columns.rt    the same as flat constant arrays, and arrays of the NV rows alone
-    crates/table/proofs/Pairs.antt the pairs of limits that those arrays share
+    crates/find/src/columns.rt     the same as flat constant arrays, and arrays of the NV rows alone
+    crates/find/specs/Pairs.antt   the pairs of limits that those arrays share
     crates/table/proofs/DefaultWords.antt the words that make the defaults out of zeros
     crates/table/specs/Places.antt the places that have names
     crates/table/src/place.rt      the same as constants
@@ -361,7 +361,14 @@ pub const NV_ROWS: usize = %d;
 
 // The bit of the saved block behind the last entry.
 pub const NV_END: usize = %d;
-""" % (len(rows), len(nv), block_end(rows))
+
+// Cells that are asked for by themselves: of the first row, and the last keys before each page.
+pub const FIRST_KEY: u32 = %d;
+
+pub const FIRST_SHAPE: u16 = %d;
+""" % (len(rows), len(nv), block_end(rows), key(rows[0]), shape(rows[0]))
+    for row in (31, 63, 95, 127):
+        text += "\npub const KEY_%d: u32 = %d;\n" % (row, key(rows[row]))
     for name, kind, cells in columns:
         text += "\npub const %s: [%s; %d] = [\n%s];\n" % (name, kind, len(cells), "".join("    %d,\n" % c for c in cells))
     return text
@@ -377,8 +384,8 @@ def main():
     files = {
         PAGE: page_with_places(page, rows),
         "crates/table/specs/Rows.antt": rows_antt(rows),
-        "crates/table/src/columns.rt": columns_rt(rows, end),
-        "crates/table/specs/Pairs.antt": pairs_antt(rows),
+        "crates/find/src/columns.rt": columns_rt(rows, end),
+        "crates/find/specs/Pairs.antt": pairs_antt(rows),
         "crates/table/proofs/DefaultWords.antt": words_antt(rows, end),
         "crates/table/specs/Places.antt": places_antt(rows),
         "crates/table/src/place.rt": place_rt(rows),

@@ -1,6 +1,6 @@
 // The saved block of the NV entries: storing and loading it.
 use entry::limits;
-use table::columns;
+use find::columns;
 use wire::wide;
 ghost use mathlib.Core.Path.{_≡_};
 ghost use mathlib.Core.Bool.{true, cond};

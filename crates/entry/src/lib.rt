@@ -27,8 +27,8 @@ pub fn held_of(row: usize) -> usize
     requires { ⌜ row < row-count ⌝ }
     ensures { λ r. ⌜ r ≡ held (at-row row) ⌝ }
 {
-    let shape = table::field::shape_of(row);
-    held_by(table::field::kind_in(shape), table::field::len_in(shape))
+    let shape = find::field::shape_of(row);
+    held_by(find::field::kind_in(shape), find::field::len_in(shape))
 }
 
 // ---- judging
@@ -52,7 +52,7 @@ fn judge_kind(kind: u8, row: usize, v: u32) -> Verdict
     requires { ⌜ (row < row-count) × (kind ≡ at-row row .kind) × (kind ≡ ULINT → ⊥) ⌝ }
     ensures { λ r. ⌜ r ≡ number-verdict (at-row row) v ⌝ }
 {
-    let both = table::field::limits_of(row);
+    let both = find::field::limits_of(row);
     limits::judge_number(kind, both.low, both.high, v)
 }
 
@@ -79,7 +79,7 @@ pub fn read_entry(values: &[u8], row: usize, kind: u8, len: usize) -> [u8; 64]
         &mut bytes,
         0,
         values,
-        table::field::place_of(row),
+        find::field::place_of(row),
         held_by(kind, len),
     );
     bytes
@@ -89,7 +89,7 @@ pub fn store_entry(values: &mut [u8], row: usize, value: &[u8])
     requires { ⌜ (length (now values) ≡ 1024) × (row < row-count) × (length (now value) ≡ held (at-row row)) ⌝ }
     ensures { λ _. ⌜ now (values .exit) ≡ stored (at-row row) (now (values .entry)) (now (value .entry)) ⌝ }
 {
-    wire::copy_at(values, table::field::place_of(row), value, 0, value.len());
+    wire::copy_at(values, find::field::place_of(row), value, 0, value.len());
 }
 
 // ---- defaults
@@ -101,9 +101,9 @@ pub fn put_default(values: &mut [u8], row: usize)
 {
     wire::put_number(
         values,
-        table::field::place_of(row),
+        find::field::place_of(row),
         held_of(row),
-        table::field::def_of(row),
+        find::field::def_of(row),
     );
 }
 
@@ -125,5 +125,5 @@ pub fn put_defaults(values: &mut [u8])
     ensures { λ _. ⌜ now (values .exit) ≡ defaults rows (replicate 1024 0) ⌝ }
 {
     wire::clear(values);
-    put_words(values, &table::columns::WORD_PLACE, &table::columns::WORD);
+    put_words(values, &find::columns::WORD_PLACE, &find::columns::WORD);
 }

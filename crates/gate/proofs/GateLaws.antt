@@ -6,16 +6,16 @@ use native.Mathlib.Omega.{arith}
 use lib.Dec.{eqb}
 use borrow.Author.Tests.{eqb-false, eq-eqb, ne-eqb}
 use Rattle.table.specs.Rows.{at-row}
-use Rattle.table.specs.Columns.{shape, access-in}
+use Rattle.find.specs.Columns.{shape, access-in}
 use Rattle.table.specs.Find.{find-row}
-use Rattle.table.specs.Search.{with-shape}
+use Rattle.find.specs.Search.{with-shape}
 use Rattle.table.specs.declared.Found.{Found}
 use Rattle.table.specs.declared.Found.the-variants.{At, NoIndex, NoSub}
-use Rattle.table.specs.declared.Sought.{Sought}
-use Rattle.table.specs.declared.Sought.the-variants.{Row as Row', NoIndex as NoIndex', NoSub as NoSub'}
+use Rattle.find.specs.declared.Sought.{Sought}
+use Rattle.find.specs.declared.Sought.the-variants.{Row as Row', NoIndex as NoIndex', NoSub as NoSub'}
 use Rattle.table.proofs.Table.{find-at}
-use Rattle.table.proofs.Way.{sought-row, sought-no-index, sought-no-sub}
-use Rattle.table.proofs.Shapes.{access-told}
+use Rattle.find.proofs.Way.{sought-row, sought-no-index, sought-no-sub}
+use Rattle.find.proofs.Shapes.{access-told}
 use Rattle.gate.specs.Gates.{to-row, no-way, gate, way-of, Shaped, index-absent, subindex-absent}
 use Rattle.gate.specs.declared.Gate.{Gate}
 use Rattle.gate.specs.declared.Gate.the-variants.{Open, Shut}

@@ -7,7 +7,7 @@ use lib.Dec.{eqb}
 use Rattle.order.specs.Talk.{Sizes, sizes, closed}
 use Rattle.table.specs.Row.{RO, WO}
 use Rattle.table.specs.Rows.{at-row}
-use Rattle.table.specs.Columns.{shape}
+use Rattle.find.specs.Columns.{shape}
 use Rattle.table.specs.declared.Found.{Found}
 use Rattle.table.specs.declared.Found.the-variants.{At, NoIndex, NoSub}
 use Rattle.gate.specs.declared.Gate.{Gate}

@@ -1,8 +1,8 @@
 // What may be read and written: the table's checks of a key, index, subindex and access; and the setup lock.
 pub mod lock;
 
-use table::Sought;
-use table::field;
+use find::Sought;
+use find::field;
 ghost use mathlib.Core.Path.{_≡_};
 ghost use Rattle.table.specs.Find.{find-row};
 ghost use Rattle.gate.specs.Gates.{gate, read-gate, write-gate, way-of, Shaped};
@@ -17,7 +17,7 @@ pub enum Gate {
 fn way(index: u16, sub: u8, barred: u8, code: u32) -> Gate
     ensures { λ r. ⌜ (way-of r ≡ gate barred code (find-row index sub)) × Shaped r ⌝ }
 {
-    let found = table::find(index, sub);
+    let found = find::find(index, sub);
     match found {
         Sought::Row(row, shape) => {
             if field::access_in(shape) == barred {

@@ -1,5 +1,5 @@
 // The setup lock.
-use table::field;
+use find::field;
 use table::place;
 use table::row;
 ghost use mathlib.Core.Path.{_≡_};

@@ -9,7 +9,7 @@ use Rattle.order.specs.Talk.{refused}
 use Rattle.order.specs.Talk.{opened as told}
 use Rattle.table.specs.Row.{CARD}
 use Rattle.table.specs.Rows.{at-row, row-count}
-use Rattle.table.specs.Columns.{shape}
+use Rattle.find.specs.Columns.{shape}
 use Rattle.table.specs.Find.{find-row}
 use Rattle.table.proofs.Table.{find-at}
 use Rattle.gate.specs.Gates.{to-row, gate, way-of, Shaped}

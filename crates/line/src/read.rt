@@ -13,7 +13,7 @@ ghost use Prim.Native.Nat.{_+_, _≤_, _<_};
 ghost use lib.ListN.{length};
 ghost use Rattle.order.specs.Talk.{opened};
 ghost use Rattle.table.specs.Rows.{row-count, at-row};
-ghost use Rattle.table.specs.Columns.{shape as row-shape};
+ghost use Rattle.find.specs.Columns.{shape as row-shape};
 ghost use Rattle.table.specs.Find.{find-row};
 ghost use Rattle.gate.specs.Gates.{read-gate};
 ghost use Rattle.gauge.specs.Whole.{value-of};
@@ -66,7 +66,7 @@ fn short_answer(values: &[u8], k: Key, row: usize, kind: u8, len: usize) -> [u8;
     ensures { λ r. ⌜ r ≡ answerOf (opened k len (value-of (at-row row) (now (values .entry))) true) ⌝ }
 {
     if kind < 7 {
-        let place = table::field::place_of(row);
+        let place = find::field::place_of(row);
         return answer::opened_short(k, &values[place..place + len], len);
     }
     let held = word::reading(word::command_at(row));
@@ -78,8 +78,8 @@ fn open_row(values: &[u8], state: &mut [u8], at: usize, k: Key, row: usize, shap
     requires { ⌜ (length (now values) ≡ 1024) × (at + 70 ≤ length (now state)) × (row < row-count) × (k ≡ keyAt row) × (shape ≡ row-shape (at-row row)) ⌝ }
     ensures { λ r. ⌜ kept (now (state .exit)) r ≡ replied at (now (state .entry)) (open-read (now (values .entry)) row) ⌝ }
 {
-    let kind = table::field::kind_in(shape);
-    let len = table::field::len_in(shape);
+    let kind = find::field::kind_in(shape);
+    let len = find::field::len_in(shape);
     if answer::is_short(len) {
         return reply::ended(state, at, short_answer(values, k, row, kind, len));
     }

@@ -13,7 +13,7 @@ ghost use Prim.Native.Nat.{_+_, _≤_, _<_};
 ghost use lib.ListN.{length, take, drop};
 ghost use Rattle.order.specs.Talk.{announced, unsaid, own};
 ghost use Rattle.table.specs.Rows.{row-count, at-row};
-ghost use Rattle.table.specs.Columns.{shape as row-shape};
+ghost use Rattle.find.specs.Columns.{shape as row-shape};
 ghost use Rattle.table.specs.Find.{find-row};
 ghost use Rattle.gate.specs.Gates.{write-gate};
 ghost use Rattle.gauge.specs.Endings.{left, left-by};
@@ -97,7 +97,7 @@ fn take_part(
         }
         let next = record::grown(t, m, count);
         let held = next.held;
-        let kind = table::field::kind_of(row);
+        let kind = find::field::kind_of(row);
         let ending = conclude(values, block, state, at, row, kind, &held[..len]);
         return answer_by(ending, row, eight);
     }
@@ -235,8 +235,8 @@ fn open_on(
     requires { ⌜ Ready at (now values) (now block) (now state) × ((row < row-count) × (k ≡ keyAt row) × (shape ≡ row-shape (at-row row))) × (length (now m) ≡ 8) × (messageOf (now m) ≡ OpenWrite k opening) ⌝ }
     ensures { λ r. ⌜ told (now (values .exit)) (now (block .exit)) (now (state .exit)) r ≡ answered at (now (values .entry)) (now (block .entry)) (now (state .entry)) (open-write opening (now (m .entry)) row) ⌝ }
 {
-    let kind = table::field::kind_in(shape);
-    let len = table::field::len_in(shape);
+    let kind = find::field::kind_in(shape);
+    let len = find::field::len_in(shape);
     match opening {
         Opening::Value(count) => write_sized(values, block, state, at, k, row, kind, len, m, count),
         Opening::Own => write_own(values, block, state, at, k, row, kind, len, m),

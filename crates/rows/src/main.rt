@@ -1,9 +1,9 @@
 // Prints the object table from the proved functions, one row to a line: index, subindex, type, access, NV mark, length, place,
 // minimum, maximum, default. Numbers are in capital hex, length and place in decimal; a dash stands where a row has none.
+use find::field;
 use io::print_decimal;
 use io::write_all;
 use libc::STDOUT_FILENO;
-use table::field;
 use wire::wide;
 ghost use mathlib.Core.Path.{_≡_};
 ghost use Prim.Native.Nat.{_≤_, _<_};
@@ -136,7 +136,7 @@ fn print_extent(row: usize, kind: u8)
 
 fn main() {
     let mut row = 0;
-    while row < table::ROWS {
+    while row < find::ROWS {
         print_row(row);
         row += 1;
     }

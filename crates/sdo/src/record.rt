@@ -15,8 +15,8 @@ pub fn key_at(row: usize) -> Key
     ensures { λ r. ⌜ r ≡ keyAt row ⌝ }
 {
     Key {
-        index: table::field::index_of(row),
-        sub: table::field::sub_of(row),
+        index: find::field::index_of(row),
+        sub: find::field::sub_of(row),
     }
 }
 
@@ -34,12 +34,12 @@ fn access_allows(d: Direction, access: u8) -> bool
 fn counts(row: usize, d: Direction, len: usize, place: usize) -> bool
     ensures { λ r. ⌜ r ≡ fitting row d len place ⌝ }
 {
-    if table::ROWS <= row {
+    if find::ROWS <= row {
         return false;
     }
-    let shape = table::field::shape_of(row);
-    if access_allows(d, table::field::access_in(shape)) {
-        if len == table::field::len_in(shape) {
+    let shape = find::field::shape_of(row);
+    if access_allows(d, find::field::access_in(shape)) {
+        if len == find::field::len_in(shape) {
             return place <= len;
         }
         return false;

@@ -3,9 +3,6 @@ pub mod Rules
 pub mod Widths
 pub mod Searched
 pub mod Table
-pub mod Shapes
-pub mod Way
-pub mod ColumnLaws
 pub mod Placed
 pub mod CommandRows
 pub mod DefaultWords

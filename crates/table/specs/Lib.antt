@@ -2,8 +2,5 @@ pub mod Row
 pub mod Rows
 pub mod Walk
 pub mod Rule
-pub mod Pairs
-pub mod Columns
 pub mod Find
-pub mod Search
 pub mod Places

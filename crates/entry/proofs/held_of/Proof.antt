@@ -1,7 +1,7 @@
 -- `entry::held_of`: `held` of the row, from its shape. Assumes nothing.
 use mathlib.Core.Path.{_∙_}
 use borrow.Author.Needs.{needs}
-use Rattle.table.proofs.Shapes.{kind-told, len-told}
+use Rattle.find.proofs.Shapes.{kind-told, len-told}
 use Rattle.entry.proofs.RowLaws.{held-from}
 use Rattle.entry.proofs.held_of.Statement.{statement}
 use Rattle.entry.proofs.held_of.Tie as tie

@@ -3,7 +3,7 @@ use mathlib.Core.Path.{ap, _∙_}
 use native.Mathlib.Omega.{arith}
 use borrow.Author.Needs.{needs}
 use Rattle.table.proofs.Table.{row-rule}
-use Rattle.table.proofs.Shapes.{kind-told, len-told}
+use Rattle.find.proofs.Shapes.{kind-told, len-told}
 use Rattle.sdo.proofs.Facts.{said}
 use Rattle.sdo.proofs.ReplyLaws.{short-in, read-long}
 use Rattle.line.specs.Answering.{replied}

@@ -2,7 +2,7 @@
 use mathlib.Core.Path.{sym, ap, _∙_}
 use borrow.Author.Needs.{needs}
 use Rattle.order.specs.Talk.{announced, unsaid}
-use Rattle.table.proofs.Shapes.{kind-told, len-told}
+use Rattle.find.proofs.Shapes.{kind-told, len-told}
 use Rattle.sdo.specs.Replies.{openWriteReply}
 use Rattle.sdo.specs.declared.Opening.{Opening}
 use Rattle.sdo.specs.declared.Message.the-variants.{OpenWrite}

@@ -1,7 +1,7 @@
 -- `counts` meets its contract: each test that fails settles the definition.
 use borrow.Author.Tests.{eq-eqb, ne-eqb, lt-ltb, le-ltb}
 use borrow.Author.Needs.{needs}
-use Rattle.table.proofs.Shapes.{access-told, len-told}
+use Rattle.find.proofs.Shapes.{access-told, len-told}
 use Rattle.sdo.proofs.Facts.{said}
 use Rattle.sdo.proofs.record.counts.Statement.{statement}
 use Rattle.sdo.proofs.record.counts.Tie as tie

@@ -1,0 +1,59 @@
+-- `find_from_128`: the column that is lent is the table's, and a row with the key stands on the page. Assumes nothing.
+use mathlib.Core.Path.{refl, sym, ap, _∙_}
+use native.Mathlib.Omega.{arith}
+use borrow.Author.Needs.{needs}
+use Rattle.table.specs.Rows.{rows}
+use Rattle.table.specs.Rule.{key}
+use Rattle.find.specs.Columns.{column}
+use Rattle.find.specs.Search.{with-shape}
+use Rattle.find.proofs.Way.{found-near, row-sought}
+use Rattle.find.proofs.find_from_128.Statement.{statement}
+use Rattle.find.proofs.find_from_128.Tie as tie
+
+slice-aggregate-search-rest : tie.Need-slice-aggregate-search-rest
+slice-aggregate-search-rest c = search needs
+
+search-rest-requires : tie.Need-search-rest-requires
+unfolding rows column key
+search-rest-requires c κs = (refl, c .before .pre)
+
+enum-known-found : tie.Need-enum-known-found
+enum-known-found c = search needs
+
+shape-from-128-requires : tie.Need-shape-from-128-requires
+shape-from-128-requires c κs =
+    let f = c .before in
+    let s = f .before .before in
+    let n = found-near 512 127 _ _ (s .before .before .pre) (sym (s .search-rest .ensures) ∙ f .found .given .1) in
+    (omega arith, n .2)
+
+enum-told : tie.Need-enum-told
+enum-told c = search needs
+
+enum-told-2 : tie.Need-enum-told-2
+enum-told-2 c = search needs
+
+returns : tie.Need-returns
+returns c = let f = c .before .before in row-sought (f .before .before .search-rest .ensures) (f .found .given .1) (c .shape-from-128 .ensures)
+
+returns-2 : tie.Need-returns-2
+unfolding with-shape
+returns-2 c = ap with-shape (sym (c .enum-told .given .1) ∙ c .before .before .search-rest .ensures)
+
+returns-3 : tie.Need-returns-3
+unfolding with-shape
+returns-3 c = ap with-shape (sym (c .enum-told2 .given .1) ∙ c .before .before .search-rest .ensures)
+
+pub find-from-128-spec : {M : Type 1} → statement M
+find-from-128-spec =
+    tie.close
+    (tie.spec
+    slice-aggregate-search-rest
+    search-rest-requires
+    enum-known-found
+    shape-from-128-requires
+    enum-told
+    enum-told-2
+    returns
+    returns-2
+    returns-3)
