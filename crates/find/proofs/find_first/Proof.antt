@@ -1,7 +1,6 @@
 -- `find_first`: row 0 has the key, or the index, or neither. Assumes nothing.
 use mathlib.Core.Path.{refl, ap}
 use native.Mathlib.Omega.{arith}
-use borrow.Author.Needs.{needs}
 use Rattle.table.specs.Rows.{rows}
 use Rattle.table.specs.Rule.{key}
 use Rattle.find.specs.Columns.{shape}
