@@ -16,10 +16,10 @@ use Rattle.wire.proofs.LittleLaws.{Bytes, from-little, number-lt}
 use Rattle.wire.proofs.FlagLaws.{by-test, bit-lt, set-back}
 use Rattle.wire.proofs.Writes.{Write, write, written, within, tidy, shown, number-shown}
 use Rattle.trip.specs.declared.Trips.{Trips}
-use Rattle.trip.specs.Trip.{usable-pressure}
+use Rattle.trip.specs.Trip.{off, usable-pressure, point-after, all-off}
 use Rattle.table.specs.Places.{input-value, trip-input-1, trip-input-2, reading-valid, status-1, status-2, trip-outputs, settings-1, settings-2, sensor-error, active-word, latched-word, summary-byte, power-on-time}
 use Rattle.sample.specs.Faults.{kept, with-faults, summary-of, with-summary}
-use Rattle.sample.specs.Sample.{settings, trips-after, with-reading, trip-word, with-trips, values-after}
+use Rattle.sample.specs.Sample.{settings, trips-next, trips-after, with-pressure, with-none, with-reading, trip-word, with-trips, values-after}
 
 -- ---- the kept faults
 
@@ -49,6 +49,21 @@ four-fits false = omega arith
 word-lt : (t : Trips) → trip-word t < 2 ^ (8 * 4)
 unfolding trip-word
 word-lt t = omega (arith, bit-lt (t .one .high), bit-lt (t .one .low), bit-lt (t .two .high), bit-lt (t .two .low))
+
+-- ---- a sample by whether its pressure is usable
+
+module _ (l : List ℕ) (was : Trips) (p : Float) (valid : ℕ) where
+  -- what is promised of trips and values
+  abbrev Taken : Trips → List ℕ → Type 0
+  Taken t x = (t ≡ trips-after l was p valid) × (x ≡ with-trips (trips-after l was p valid) (with-reading p valid l))
+
+  pub taken-usable : {t : Trips} {x : List ℕ} → usable-pressure p valid ≡ true → (t ≡ trips-next l was p) × (x ≡ with-trips (trips-next l was p) (with-pressure p l)) → Taken t x
+  unfolding trips-next trips-after point-after with-reading
+  taken-usable e q = (simp e (q .0), simp e (q .1))
+
+  pub taken-unusable : {t : Trips} {x : List ℕ} → usable-pressure p valid ≡ false → (t ≡ all-off) × (x ≡ with-trips all-off (with-none l)) → Taken t x
+  unfolding trips-after point-after off with-reading
+  taken-unusable e q = (simp e (q .0), simp e (q .1))
 
 -- ---- a sample as a list of writes
 

@@ -8,7 +8,7 @@ use Rattle.wire.specs.Flags.{is-set, bit}
 use Rattle.wire.specs.Real.{real}
 use Rattle.trip.specs.declared.Point.{Point}
 use Rattle.trip.specs.declared.Trips.{Trips}
-use Rattle.trip.specs.Trip.{usable-pressure, point-after}
+use Rattle.trip.specs.Trip.{usable-pressure, point-next, point-after}
 use Rattle.table.specs.Places.{input-value, trip-input-1, trip-input-2, reading-valid, status-1, status-2, trip-outputs, settings-1, settings-2, high-enable, low-enable, high-level, low-level, high-hysteresis, low-hysteresis, power-on-time}
 use Rattle.sample.specs.Faults.{with-faults, with-summary}
 
@@ -30,7 +30,14 @@ settings l at =
           };
     }
 
--- both trip points, by the settings that stand in the values
+-- both trip points, by the settings that stand in the values: one usable pressure on, and after any sample
+unfoldable pub trips-next : List ℕ → Trips → Float → Trips
+trips-next l was p =
+    record {
+      one = point-next (settings l settings-1) (was .one) p;
+      two = point-next (settings l settings-2) (was .two) p;
+    }
+
 unfoldable pub trips-after : List ℕ → Trips → Float → ℕ → Trips
 trips-after l was p valid =
     record {
@@ -38,12 +45,17 @@ trips-after l was p valid =
       two = point-after (settings l settings-2) (was .two) p valid;
     }
 
--- "the pressure becomes the input value (the trip points' too), reading valid is 1"; not usable: "the input value stays, reading valid is 0"
+-- "the pressure becomes the input value (the trip points' too), reading valid is 1"
+abbrev pub with-pressure : Float → List ℕ → List ℕ
+with-pressure p l =
+    put-number (put-number (put-number (put-number l input-value 4 (toBits binary32 p)) trip-input-1 4 (toBits binary32 p)) trip-input-2 4 (toBits binary32 p)) reading-valid 1 1
+
+-- not usable: "the input value stays, reading valid is 0"
+abbrev pub with-none : List ℕ → List ℕ
+with-none l = put-number l reading-valid 1 0
+
 unfoldable pub with-reading : Float → ℕ → List ℕ → List ℕ
-with-reading p valid l =
-    cond (usable-pressure p valid)
-    (put-number (put-number (put-number (put-number l input-value 4 (toBits binary32 p)) trip-input-1 4 (toBits binary32 p)) trip-input-2 4 (toBits binary32 p)) reading-valid 1 1)
-    (put-number l reading-valid 1 0)
+with-reading p valid l = cond (usable-pressure p valid) (with-pressure p l) (with-none l)
 
 -- bits 0 to 3 of F641: trip point 1 high, low, trip point 2 high, low
 unfoldable pub trip-word : Trips → ℕ

@@ -7,13 +7,16 @@ use trip::Side;
 use trip::Trips;
 use wire::bit_of;
 use wire::is_set;
+ghost use mathlib.Core.Bool.{false};
 ghost use mathlib.Core.Path.{_≡_};
 ghost use Prim.Native.Nat.{_+_, _≤_};
 ghost use lib.ListN.{length};
+ghost use lib.Ieee.{isNan};
 ghost use Rattle.wire.specs.Little.{put-number};
+ghost use Rattle.trip.specs.Trip.{all-off};
 ghost use Rattle.table.specs.Places.{summary-byte};
 ghost use Rattle.sample.specs.Faults.{kept, with-faults, summary-of};
-ghost use Rattle.sample.specs.Sample.{settings, trips-after, with-reading, trip-word, with-trips, values-after};
+ghost use Rattle.sample.specs.Sample.{settings, trips-next, trips-after, with-pressure, with-none, with-reading, trip-word, with-trips, values-after};
 
 fn settings_at(values: &[u8], at: usize) -> Point
     requires { ⌜ at + 34 ≤ length (now values) ⌝ }
@@ -32,34 +35,27 @@ fn settings_at(values: &[u8], at: usize) -> Point
     Point { high, low }
 }
 
-// A sample that is not valid turns both points off: no settings are read.
-fn next_trips(values: &[u8], was: Trips, pressure: f32, valid: u8) -> Trips
+// Both points, one sample on, by the settings that stand in the values.
+fn next_trips(values: &[u8], was: Trips, p: f32) -> Trips
     requires { ⌜ length (now values) ≡ 1024 ⌝ }
-    ensures { λ r. ⌜ r ≡ trips-after (now (values .entry)) was pressure valid ⌝ }
+    ensures { λ r. ⌜ r ≡ trips-next (now (values .entry)) was p ⌝ }
 {
-    if trip::usable(pressure, valid) {
-        let first = was.one;
-        let second = was.two;
-        let one = trip::next(settings_at(values, place::SETTINGS_1), first, pressure);
-        let two = trip::next(settings_at(values, place::SETTINGS_2), second, pressure);
-        return Trips { one, two };
-    }
-    trip::all_off()
+    let first = was.one;
+    let second = was.two;
+    let one = trip::next(settings_at(values, place::SETTINGS_1), first, p);
+    let two = trip::next(settings_at(values, place::SETTINGS_2), second, p);
+    Trips { one, two }
 }
 
-fn put_reading(values: &mut [u8], p: f32, valid: u8)
-    requires { ⌜ length (now values) ≡ 1024 ⌝ }
-    ensures { λ _. ⌜ now (values .exit) ≡ with-reading p valid (now (values .entry)) ⌝ }
+fn put_reading(values: &mut [u8], p: f32)
+    requires { ⌜ (length (now values) ≡ 1024) × (isNan p ≡ false) ⌝ }
+    ensures { λ _. ⌜ now (values .exit) ≡ with-pressure p (now (values .entry)) ⌝ }
 {
-    if trip::usable(p, valid) {
-        let pattern = wire::bits_of(p);
-        wire::put_word(values, place::INPUT_VALUE, pattern);
-        wire::put_word(values, place::TRIP_INPUT_1, pattern);
-        wire::put_word(values, place::TRIP_INPUT_2, pattern);
-        wire::put_byte(values, place::READING_VALID, 1);
-    } else {
-        wire::put_byte(values, place::READING_VALID, 0);
-    }
+    let pattern = wire::bits_of(p);
+    wire::put_word(values, place::INPUT_VALUE, pattern);
+    wire::put_word(values, place::TRIP_INPUT_1, pattern);
+    wire::put_word(values, place::TRIP_INPUT_2, pattern);
+    wire::put_byte(values, place::READING_VALID, 1);
 }
 
 fn word_of(t: Trips) -> u8
@@ -87,6 +83,42 @@ fn put_trips(values: &mut [u8], t: Trips)
     );
     let word = word_of(t) as u32;
     wire::put_word(values, place::TRIP_OUTPUTS, word);
+}
+
+// A sample whose pressure is usable.
+fn take_usable(values: &mut [u8], was: Trips, p: f32) -> Trips
+    requires { ⌜ (length (now values) ≡ 1024) × (isNan p ≡ false) ⌝ }
+    ensures trips { λ r. ⌜ r ≡ trips-next (now (values .entry)) was p ⌝ }
+    ensures values { λ _. ⌜ now (values .exit) ≡ with-trips (trips-next (now (values .entry)) was p) (with-pressure p (now (values .entry))) ⌝ }
+{
+    let next = next_trips(values, was, p);
+    put_reading(values, p);
+    put_trips(values, next);
+    next
+}
+
+// A sample whose pressure is not usable turns both points off: no settings are read.
+fn take_unusable(values: &mut [u8]) -> Trips
+    requires { ⌜ length (now values) ≡ 1024 ⌝ }
+    ensures trips { λ r. ⌜ r ≡ all-off ⌝ }
+    ensures values { λ _. ⌜ now (values .exit) ≡ with-trips all-off (with-none (now (values .entry))) ⌝ }
+{
+    wire::put_byte(values, place::READING_VALID, 0);
+    let off = trip::all_off();
+    put_trips(values, off);
+    off
+}
+
+// Reading and trips. Each way stores for itself, so that the two do not have to be joined.
+fn take(values: &mut [u8], was: Trips, p: f32, valid: u8) -> Trips
+    requires { ⌜ length (now values) ≡ 1024 ⌝ }
+    ensures trips { λ r. ⌜ r ≡ trips-after (now (values .entry)) was p valid ⌝ }
+    ensures values { λ _. ⌜ now (values .exit) ≡ with-trips (trips-after (now (values .entry)) was p valid) (with-reading p valid (now (values .entry))) ⌝ }
+{
+    if trip::usable(p, valid) {
+        return take_usable(values, was, p);
+    }
+    take_unusable(values)
 }
 
 fn keep(faults: u32) -> u32
@@ -131,9 +163,7 @@ pub fn taken(
     ensures trips { λ r. ⌜ r ≡ trips-after (now (values .entry)) on pressure valid ⌝ }
     ensures values { λ _. ⌜ now (values .exit) ≡ values-after (now (values .entry)) on pressure valid faults seconds ⌝ }
 {
-    let next = next_trips(values, on, pressure, valid);
-    put_reading(values, pressure, valid);
-    put_trips(values, next);
+    let next = take(values, on, pressure, valid);
     put_faults(values, faults);
     put_summary(values, wire::word_at(values, place::ACTIVE_WORD));
     wire::put_word(values, place::POWER_ON_TIME, seconds);
