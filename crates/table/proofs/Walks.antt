@@ -1,5 +1,5 @@
 -- What a test over a whole list says at each place. It holds for any list. Assumes nothing.
-use mathlib.Core.Bool.{Bool, true, false, _&&_, and-eq-true-iff}
+use mathlib.Core.Bool.{Bool, true, false}
 use mathlib.Core.List.{List, [], _∷_}
 use Prim.Native.Nat.{ℕ, zero, suc, _<_, _≤_}
 use native.Mathlib.Nat.{le-of-suc-le-suc, not-suc-le-zero}
@@ -68,6 +68,3 @@ module _ {A : Type 0} where
     chain-far (x ∷ xs) t zero (suc k) h l = linked-far x xs t k (le-of-suc-le-suc l)
     chain-far (x ∷ xs) t (suc j) zero h l = absurd (not-suc-le-zero h)
     chain-far (x ∷ xs) t (suc j) (suc k) h l = chain-far xs (tail-chain x xs t) j k (le-of-suc-le-suc h) (le-of-suc-le-suc l)
-
-pub and-true : (a b : Bool) → (a && b) ≡ true → (a ≡ true) × (b ≡ true)
-and-true a b = and-eq-true-iff a b .0
