@@ -2,7 +2,6 @@
 pub mod Fields
 pub mod Words
 pub mod Made
-pub mod Judged
 pub mod Shown
 pub mod Stored
 pub mod RoundTrip

@@ -75,7 +75,7 @@ fn refusal(values: &[u8], row: usize, kind: u8, bytes: &[u8]) -> u32
         return 0x08000022;
     }
     if kind == 7 {
-        return entry::limits::code_of(card::judge(bytes));
+        return entry::limits::code_of(enter::judge(bytes));
     }
     entry::limits::code_of(entry::judge(row, kind, bytes))
 }
@@ -86,7 +86,7 @@ fn put(values: &mut [u8], block: &mut [u8], row: usize, kind: u8, bytes: &[u8]) 
     ensures { λ r. ⌜ left r (now (values .exit)) (now (block .exit)) ≡ left-by (memory-of (now (values .entry)) (now (block .entry))) (effect (at-row row) (now (bytes .entry)) (memory-of (now (values .entry)) (now (block .entry)))) ⌝ }
 {
     if kind == 7 {
-        card::write(values, bytes);
+        enter::write(values, bytes);
         return Ending::Accepted;
     }
     if kind == 8 {

@@ -121,7 +121,7 @@ pub fn shown() {
 fn judges(name: &[u8], card: [u64; 8], code: u32) {
     say(
         name,
-        entry::limits::code_of(card::judge(&card_of(card))) == code,
+        entry::limits::code_of(enter::judge(&card_of(card))) == code,
     );
 }
 
@@ -187,7 +187,7 @@ pub fn judged() {
 // A card written into zeros is these settings.
 fn writes(name: &[u8], card: [u64; 8], set: [u64; 10]) {
     let mut values = [0u8; 1024];
-    card::write(&mut values, &card_of(card));
+    enter::write(&mut values, &card_of(card));
     say(name, check::same(&values, &values_of(set)));
 }
 
@@ -203,7 +203,7 @@ fn with_others(set: [u64; 10]) -> [u8; 1024] {
 // A card of zeros over lent enables and levels: only the twelve entries change.
 fn writes_over() {
     let mut values = with_others(FULL_SET);
-    card::write(&mut values, &card_of(ZERO));
+    enter::write(&mut values, &card_of(ZERO));
     compare_values(
         b"written: zeros, and all else stays",
         &values,

@@ -1,8 +1,8 @@
 -- `fields_1`: the fields of trip point 1, cut out of a byte and four words.
 use Rattle.card.proofs.Words.{fields-1}
 use borrow.Author.Needs.{needs}
-use Rattle.card.proofs.fields_1.Statement.{statement}
-use Rattle.card.proofs.fields_1.Tie as tie
+use Rattle.enter.proofs.fields_1.Statement.{statement}
+use Rattle.enter.proofs.fields_1.Tie as tie
 
 shared-slice-read-to-u32 : tie.Need-shared-slice-read-to-u32
 shared-slice-read-to-u32 c = search needs

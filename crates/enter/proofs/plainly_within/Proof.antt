@@ -2,10 +2,10 @@
 use native.Mathlib.Omega.{arith}
 use lib.ListN.{getD}
 use borrow.Author.Tests.{lt-leb, le-leb}
 use Rattle.card.specs.Card.{plainly-within}
 use borrow.Author.Needs.{needs}
-use Rattle.card.proofs.plainly_within.Statement.{statement}
-use Rattle.card.proofs.plainly_within.Tie as tie
+use Rattle.enter.proofs.plainly_within.Statement.{statement}
+use Rattle.enter.proofs.plainly_within.Tie as tie
 
 array-read-if1 : tie.Need-array-read-if1
 array-read-if1 c = search needs

@@ -1,8 +1,8 @@
 -- `judge_layout` is `layout-verdict`: by whether the layout is 1.
 use borrow.Author.Tests.{eq-eqb, ne-eqb}
 use Rattle.card.specs.Card.{layout-verdict}
-use Rattle.card.proofs.judge_layout.Statement.{statement}
-use Rattle.card.proofs.judge_layout.Tie as tie
+use Rattle.enter.proofs.judge_layout.Statement.{statement}
+use Rattle.enter.proofs.judge_layout.Tie as tie
 
 returns : tie.Need-returns
 unfolding layout-verdict

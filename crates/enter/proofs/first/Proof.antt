@@ -1,8 +1,8 @@
 -- `first` is `first-bad`, case by case.
 use Rattle.card.specs.Card.{first-bad}
 use borrow.Author.Needs.{needs}
-use Rattle.card.proofs.first.Statement.{statement}
-use Rattle.card.proofs.first.Tie as tie
+use Rattle.enter.proofs.first.Statement.{statement}
+use Rattle.enter.proofs.first.Tie as tie
 
 enum-told : tie.Need-enum-told
 enum-told c = search needs

@@ -1,10 +1,10 @@
 -- `write` is `with-card`: one point after the other; an enable is one bit wide.
 use native.Mathlib.Omega.{arith}
 use Rattle.card.specs.Card.{point-1, point-2, with-card}
 use Rattle.card.proofs.Fields.{fields-lt}
 use borrow.Author.Needs.{needs}
-use Rattle.card.proofs.write.Statement.{statement}
-use Rattle.card.proofs.write.Tie as tie
+use Rattle.enter.proofs.write.Statement.{statement}
+use Rattle.enter.proofs.write.Tie as tie
 
 fields-1-requires : tie.Need-fields-1-requires
 fields-1-requires c κs = search needs

@@ -1,7 +1,7 @@
 -- `both_within`: the second point counts where the first is plainly within.
 use borrow.Author.Needs.{needs}
-use Rattle.card.proofs.both_within.Statement.{statement}
-use Rattle.card.proofs.both_within.Tie as tie
+use Rattle.enter.proofs.both_within.Statement.{statement}
+use Rattle.enter.proofs.both_within.Tie as tie
 
 plainly-within-requires : tie.Need-plainly-within-requires
 plainly-within-requires c κs = search needs

@@ -1,8 +1,8 @@
 -- `fields_2`: the enables of trip point 2 and its four words.
 use Rattle.card.proofs.Words.{fields-2}
 use borrow.Author.Needs.{needs}
-use Rattle.card.proofs.fields_2.Statement.{statement}
-use Rattle.card.proofs.fields_2.Tie as tie
+use Rattle.enter.proofs.fields_2.Statement.{statement}
+use Rattle.enter.proofs.fields_2.Tie as tie
 
 shared-slice-read-to-u32 : tie.Need-shared-slice-read-to-u32
 shared-slice-read-to-u32 c = search needs

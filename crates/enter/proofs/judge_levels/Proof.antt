@@ -1,7 +1,7 @@
 -- `judge_levels`: the first bad of four.
 use borrow.Author.Needs.{needs}
-use Rattle.card.proofs.judge_levels.Statement.{statement}
-use Rattle.card.proofs.judge_levels.Tie as tie
+use Rattle.enter.proofs.judge_levels.Statement.{statement}
+use Rattle.enter.proofs.judge_levels.Tie as tie
 
 judge-level-requires : tie.Need-judge-level-requires
 judge-level-requires c κs = search needs

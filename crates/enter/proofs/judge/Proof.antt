@@ -1,11 +1,11 @@
 -- `judge` is `card-verdict`: by the layout alone where both points are plainly within.
 use mathlib.Core.Path.{sym, _∙_}
 use Rattle.card.specs.Card.{point-verdict, card-verdict}
 use Rattle.card.proofs.Words.{head-layout}
-use Rattle.card.proofs.Judged.{plain-card}
+use Rattle.enter.proofs.Judged.{plain-card}
 use borrow.Author.Needs.{needs}
-use Rattle.card.proofs.judge.Statement.{statement}
-use Rattle.card.proofs.judge.Tie as tie
+use Rattle.enter.proofs.judge.Statement.{statement}
+use Rattle.enter.proofs.judge.Tie as tie
 
 shared-slice-read-to-u32 : tie.Need-shared-slice-read-to-u32
 shared-slice-read-to-u32 c = search needs

@@ -1,8 +1,8 @@
 -- `write_point` is `with-point`: six numbers, one after the other.
 use Rattle.card.proofs.Fields.{point-written}
 use borrow.Author.Needs.{needs}
-use Rattle.card.proofs.write_point.Statement.{statement}
-use Rattle.card.proofs.write_point.Tie as tie
+use Rattle.enter.proofs.write_point.Statement.{statement}
+use Rattle.enter.proofs.write_point.Tie as tie
 
 add-put-byte : tie.Need-add-put-byte
 add-put-byte c = search needs

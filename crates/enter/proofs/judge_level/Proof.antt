@@ -1,9 +1,9 @@
 -- `judge_level` is `level-verdict`: the limits are the ranks of document 01's.
 use mathlib.Core.Path.{_∙_}
-use Rattle.card.proofs.Judged.{level-ranked}
+use Rattle.enter.proofs.Judged.{level-ranked}
 use borrow.Author.Needs.{needs}
-use Rattle.card.proofs.judge_level.Statement.{statement}
-use Rattle.card.proofs.judge_level.Tie as tie
+use Rattle.enter.proofs.judge_level.Statement.{statement}
+use Rattle.enter.proofs.judge_level.Tie as tie
 
 judge-number-requires : tie.Need-judge-number-requires
 judge-number-requires c κs = search needs
