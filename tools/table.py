@@ -181,7 +181,7 @@ def printed(row):
 
 
 def rows_antt(rows):
-    lines = ["""-- THE OBJECT TABLE: one line for each row, in the order of docs/object-table.md, from which tools/table.py writes this file.
+    lines = ["""-- RULE: THE OBJECT TABLE (R1.1): one line for each row, in the order of docs/object-table.md, from which tools/table.py writes this file.
 -- index, subindex, type, access, NV mark, length, place, minimum, maximum, default. Assumes nothing.
 use mathlib.Core.List.{List, [], _∷_}
 use Prim.Native.Nat.{ℕ}
@@ -227,7 +227,7 @@ def places(rows):
 
 
 def places_antt(rows):
-    text = """-- The places in the values that have names. tools/table.py writes this file; that they are the table's is computed in
+    text = """-- RULE: the places in the values that have names. tools/table.py writes this file; that they are the table's is computed in
 -- proofs/Placed.antt. Assumes nothing.
 use Prim.Native.Nat.{ℕ, _+_}
 use mathlib.Core.List.{List, [], _∷_}
@@ -284,7 +284,7 @@ def limit_pairs(rows):
 def pairs_antt(rows):
     pairs, numbers = limit_pairs(rows)
     listed = lambda cells: " ∷ ".join(str(cell) for cell in cells) + " ∷ []"
-    text = """-- The limits as the code has them: few pairs of ranks, and for each row the number of its pair. tools/table.py writes this
+    text = """-- SHAPE: the limits as the code has them: few pairs of ranks, and for each row the number of its pair. tools/table.py writes this
 -- file from docs/object-table.md. Assumes nothing.
 use mathlib.Core.List.{List, [], _∷_}
 use Prim.Native.Nat.{ℕ}

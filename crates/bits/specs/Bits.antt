@@ -1,4 +1,4 @@
--- "most significant bit first": bytes as the list of their bits, a number as bits, bits as a number.
+-- RULE: the most significant bit first (R3.1, R4.1): bytes as the list of their bits, a number as bits, bits as a number.
 use mathlib.Core.List.{List, [], _∷_, _++_}
 use Prim.Native.Nat.{ℕ, zero, suc, _+_, _*_, _/_, _%_, _^_, _<_}
 use lib.ListN.{take, drop}

@@ -1,4 +1,4 @@
--- "no gaps": fields one after the other, each a width and a value.
+-- RULE: fields with no gap (R3.1, R4.2), each a width and a value.
 use mathlib.Core.List.{List, [], _∷_, _++_}
 use Prim.Native.Nat.{ℕ, _+_, _^_, _≤_, _<_}
 use lib.ListN.{take, drop}

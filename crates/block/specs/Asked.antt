@@ -1,4 +1,4 @@
--- What the parts of the code ask and give: of the columns lent, of an entry, of a walk over the NV rows.
+-- SHAPE: what the functions ask and give: of the columns lent, of an entry, of a walk over the NV rows.
 use mathlib.Core.Bool.{Bool, cond, _&&_}
 use mathlib.Core.List.{List, [], _∷_, map}
 use mathlib.Core.Path.{_≡_}

@@ -1,6 +1,4 @@
--- THE SAVED BLOCK of any rows: "Saved block, 512 bytes, most significant bit first: layout 4 bits (1), model 4 bits (BAG552 is
--- 1), then each NV entry in table order (BOOL one bit, numbers at their width, strings byte by byte), zero bits to the end. The
--- block is faulty if layout or model differ, any value is outside its limits or a bit of the rest is set."
+-- RULE: THE SAVED BLOCK of any rows (R4.1 to R4.3).
 use mathlib.Core.Bool.{Bool, true, cond, _&&_}
 use mathlib.Core.List.{List, [], _∷_, _++_}
 use Prim.Native.Nat.{ℕ, _+_, _-_, _*_}
@@ -21,7 +19,7 @@ BAG552 = 1
 
 -- ---- one entry
 
--- how many bits it takes: "BOOL one bit, numbers at their width, strings byte by byte"
+-- how many bits it takes (R4.2)
 unfoldable pub width : ℕ → ℕ → ℕ
 width kind len = cond (eqb kind BOOL) 1 (8 * len)
 
@@ -44,7 +42,7 @@ entry-bytes kind len bs = cond (leb kind REAL) (little len (num (take (width kin
 unfoldable pub within : Row → ℕ → Bool
 within r v = eqb (verdict-code (number-verdict r v)) 0
 
--- ---- "each NV entry in table order"
+-- ---- the NV entries in the order of the table (R4.2)
 
 unfoldable pub nv-rows : List Row → List Row
 nv-rows [] = []
@@ -88,7 +86,7 @@ block-of model values rs = msb 4 LAYOUT ++ (msb 4 model ++ (saved values rs ++ r
 unfoldable pub headed : ℕ → List ℕ → Bool
 headed model bs = eqb (field bs 0 4) LAYOUT && eqb (field bs 4 4) model
 
--- not faulty
+-- not faulty (R4.3)
 unfoldable pub good : ℕ → List ℕ → List Row → Bool
 good model bs rs =
     headed model bs && (rows-good bs 8 rs && all-zero (drop (8 + widths rs) bs))

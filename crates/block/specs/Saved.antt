@@ -1,5 +1,4 @@
--- The saved block of the BAG552: "Load takes the saved block whole", or leaves the values; "Store writes the block", or "writes
--- nothing in it if a lent NV value is outside its limits".
+-- RULE: the saved block of the BAG552: a load takes it whole or leaves the values (R4.4, R8.5), a store writes it or leaves it (R8.6).
 use mathlib.Core.Bool.{Bool, cond}
 use mathlib.Core.List.{List}
 use Prim.Native.Nat.{ℕ}

@@ -1,4 +1,4 @@
--- THE PROMISES OF THE BOARD'S CALLS: each returned number, every byte of what was lent, on all inputs. Assumes nothing.
+-- RULE: THE PROMISES OF THE BOARD'S CALLS (R13.1): each returned number, every byte of what was lent, on all inputs. Assumes nothing.
 use mathlib.Core.Bool.{Bool, cond, _&&_}
 use mathlib.Core.List.{List, [], _∷_}
 use mathlib.Core.Path.{_≡_}
@@ -20,7 +20,7 @@ use Rattle.board.specs.Gauge.{sampled, bag552}
 abbrev pub store-of : List ℕ → List ℕ → List ℕ → Store
 store-of values block state = record { memory = memory-of values block; trips = trips-at state }
 
--- "values not 1,024 or block not 512 bytes"; "another length [of the state] is number 4"
+-- the lengths of what is lent (R13.2)
 unfoldable pub sized : List ℕ → List ℕ → List ℕ → Bool
 sized values block state = eqb (length values) 1024 && (eqb (length block) 512 && eqb (length state) 256)
 
@@ -36,7 +36,7 @@ pub record Called : Type 0 where
 abbrev pub called : ℕ → List ℕ → List ℕ → List ℕ → List ℕ → Called
 called number values block state answer = record { number = number; values = values; block = block; state = state; answer = answer }
 
--- "client's abort taken (no refusal)" is 5, "answered or done" is 0
+-- no answer is the client's abort (R13.7, R13.8)
 unfoldable pub number-by : List ℕ → ℕ
 number-by [] = 5
 number-by (b ∷ bytes) = 0
@@ -52,12 +52,12 @@ pub record Lent (m values block state answer : List ℕ) : Type 0 where
   pub state-long : length state ≡ 256
   pub room : 8 ≤ length answer
 
--- the message is served: "eight bytes .. written, later bytes untouched", or for an abort "answer room untouched"
+-- the message is served: the answer's bytes are written, if any, and no other of the room (R13.7, R13.8)
 unfoldable pub served : ℕ → Spoken Store → List ℕ → List ℕ → Called
 served line s state answer =
     called (number-by (s .bytes)) (s .store .memory .values) (s .store .memory .block) (state-after line s state) (splice answer 0 (s .bytes))
 
--- "Tested in the order 4, 3, 2, 1": "nothing changed or written"
+-- the numbers in their order (R13.2 to R13.6)
 unfoldable pub message-call : ℕ → List ℕ → List ℕ → List ℕ → List ℕ → List ℕ → Called
 message-call line m values block state answer =
     cond (sized values block state)
@@ -81,7 +81,7 @@ pub record Powered : Type 0 where
 abbrev pub powered : ℕ → List ℕ → List ℕ → List ℕ → Powered
 powered number values block state = record { number = number; values = values; block = block; state = state }
 
--- "trips off, .. both transfer records all zero whatever they held"
+-- values from the block, records and trips as at power-up (R9.1 to R9.3)
 unfoldable pub power-up-call : List ℕ → List ℕ → List ℕ → Powered
 power-up-call values block state =
     cond (sized values block state) (powered 0 (fresh-values block) block (dropped state)) (powered 4 values block state)
@@ -114,6 +114,7 @@ pub record Shown : Type 0 where
 abbrev pub shown : ℕ → List ℕ → Shown
 shown number image = record { number = number; image = image }
 
+-- the room must have ten bytes (R13.4)
 unfoldable pub image-call : List ℕ → List ℕ → Shown
 image-call values image =
     cond (eqb (length values) 1024) (cond (leb 10 (length image)) (shown 0 (splice image 0 (image-of values))) (shown 2 image)) (shown 4 image)

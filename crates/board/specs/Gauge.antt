@@ -1,4 +1,4 @@
--- THE BOARD'S GAUGE: the plain gauge by its entries, as the lines are served with it. Assumes nothing.
+-- RULE: THE BOARD'S GAUGE: the plain gauge by its entries, as the lines are served with it. Assumes nothing.
 use Prim.Native.Nat.{ℕ}
 use lib.Ieee.{Float}
 use Rattle.sample.specs.Sample.{values-after, trips-after}
@@ -6,7 +6,7 @@ use Rattle.sdo.specs.Lines.{Entries}
 use Rattle.gauge.specs.Memory.{Store, with-values}
 use Rattle.gauge.specs.Whole.{read-whole, commit-whole, write-sizes}
 
--- "A sample has pressure (REAL), valid flag (0 is not valid, else valid), fault word, seconds since power-on"
+-- a sample (R10.1)
 pub record Sample : Type 0 where
   pub pressure : Float
   pub valid : ℕ

@@ -1,6 +1,4 @@
--- THE TRIP CARD (document 01, house row 2010): "Trip card, most significant bit first, no gaps: layout 4 bits (1); then for trip
--- point 1 and again for 2: high enable 1, low enable 1, high level 32, high hysteresis 32, low level 32, low hysteresis 32.
--- 264 bits." "A view of the trip entries, stored nowhere else."
+-- RULE: THE TRIP CARD, house row 2010 (R1.7, R3.1): a view of the trip entries (R3.3).
 use mathlib.Core.Bool.{Bool, cond, _&&_}
 use mathlib.Core.List.{List, [], _∷_, _++_}
 use Prim.Native.Nat.{ℕ, _+_}
@@ -16,11 +14,11 @@ use Rattle.entry.specs.Limits.{kind-verdict}
 use Rattle.entry.specs.declared.limits.Verdict.{Verdict}
 use Rattle.entry.specs.declared.limits.Verdict.the-variants.{Within, NotANumber, Above, Below}
 
--- "layout 4 bits (1)"
+-- R3.4
 abbrev pub layout : ℕ
 layout = 1
 
--- "high enable 1, low enable 1, high level 32, high hysteresis 32, low level 32, low hysteresis 32"
+-- a trip point's fields (R3.2)
 abbrev pub widths : List ℕ
 widths = 1 ∷ 1 ∷ 32 ∷ 32 ∷ 32 ∷ 32 ∷ []
 
@@ -33,7 +31,7 @@ point-2 = 134
 
 -- ---- what the card shows of the values
 
--- "In the card and in a sample a lent enable byte other than 0 is 1"
+-- R3.6
 unfoldable pub enable : List ℕ → ℕ → ℕ
 enable values at = bit (is-set values at)
 
@@ -51,7 +49,7 @@ point-fields values at =
 unfoldable pub point-bits : List ℕ → ℕ → List ℕ
 point-bits values at = encode widths (point-fields values at)
 
--- "no gaps"
+-- one behind the other (R3.1)
 unfoldable pub card-bits : List ℕ → List ℕ
 card-bits values = msb 4 layout ++ (point-bits values settings-1 ++ point-bits values settings-2)
 
@@ -67,15 +65,15 @@ fields-of card at = decode widths (drop at (bits card))
 
 -- ---- judging a card
 
--- "Another layout is out of range (06090030)"
+-- R3.4
 unfoldable pub layout-verdict : ℕ → Verdict
 layout-verdict v = cond (eqb v layout) Within NotANumber
 
--- "trip levels and hystereses lie from 0 to 1500"
+-- R2.6
 unfoldable pub level-verdict : ℕ → Verdict
 level-verdict v = kind-verdict REAL 0 0x44BB8000 v
 
--- "in a card the first bad field decides"
+-- R3.5
 unfoldable pub first-bad : Verdict → Verdict → Verdict
 first-bad Within next = next
 first-bad NotANumber next = NotANumber

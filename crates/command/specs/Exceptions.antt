@@ -1,5 +1,5 @@
--- "Exception reset clears the latched words": F390 and F391 to F398, all that the manual calls latched, which stand behind each
--- other; and the summary byte is worked out anew. Assumes nothing.
+-- RULE: what an exception reset does (R8.7): F390 and F391 to F398, which stand behind each other, are cleared, and the summary byte
+-- is worked out anew. Assumes nothing.
 use mathlib.Core.List.{List}
 use Prim.Native.Nat.{ℕ}
 use lib.ListN.{replicate}

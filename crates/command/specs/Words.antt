@@ -1,4 +1,4 @@
--- The four command words: which bytes each takes, what it reads as, and where its status stands. Assumes nothing.
+-- RULE: the four command words: which bytes each takes, what it reads as, and where its status stands. Assumes nothing.
 use mathlib.Core.Bool.{Bool, true, false, cond, _&&_}
 use mathlib.Core.List.{List, [], _∷_}
 use Prim.Native.Nat.{ℕ, _+_}
@@ -13,14 +13,14 @@ use Rattle.command.specs.declared.word.Command.the-variants.{DeviceReset
 unfoldable pub command-at : ℕ → Command
 command-at i = cond (eqb i 0xFBF0) DeviceReset (cond (eqb i 0xFBF1) ExceptionReset (cond (eqb i 0xFBF2) StoreParameters LoadParameters))
 
--- "Load (FBF4:01) takes the bytes 6C 6F 61 64; store, exception reset and device reset take theirs from 000, 4.6.23 to 4.6.25"
+-- R8.1
 unfoldable pub word-of : Command → List ℕ
 word-of DeviceReset = 0x74 ∷ 0x65 ∷ 0x73 ∷ 0x65 ∷ 0x72 ∷ 0x00 ∷ []
 word-of ExceptionReset = 0x74 ∷ 0x65 ∷ 0x73 ∷ 0x65 ∷ 0x72 ∷ []
 word-of StoreParameters = 0x73 ∷ 0x61 ∷ 0x76 ∷ 0x65 ∷ []
 word-of LoadParameters = 0x6C ∷ 0x6F ∷ 0x61 ∷ 0x64 ∷ []
 
--- "Reading FBF4:01 gives 01 00 00 00; a command word with no printed read value reads as zeros": 000, 4.6.25 prints the same for FBF2:01
+-- R8.2
 unfoldable pub read-word : Command → List ℕ
 read-word DeviceReset = 0 ∷ 0 ∷ 0 ∷ 0 ∷ 0 ∷ 0 ∷ []
 read-word ExceptionReset = 0 ∷ 0 ∷ 0 ∷ 0 ∷ 0 ∷ []
@@ -33,7 +33,7 @@ status-of ExceptionReset = exception-status
 status-of StoreParameters = store-status
 status-of LoadParameters = load-status
 
--- "status and response byte 0 become" the code
+-- status and response byte 0 (R8.3, R8.4)
 unfoldable pub with-status : Command → ℕ → List ℕ → List ℕ
 with-status c code values = splice (splice values (status-of c) (little 1 code)) (status-of c + 1) (little 1 code)
 

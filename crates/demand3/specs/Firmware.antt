@@ -1,4 +1,4 @@
--- THE C FIRMWARE'S RUN, from power-up: a list of calls on three lent arrays, each exactly what the exported call is held to (crate board,
+-- RULE: THE C FIRMWARE'S RUN, from power-up (R15.1): a list of calls on three lent arrays, each exactly what the exported call is held to (crate board,
 -- specs/Calls.antt). THE OBSERVER is given the calls and what they give back, and never the arrays. DEMAND 3 over both. Assumes nothing.
 use Prim.Native.Nat.{ℕ, zero, suc, _+_, _/_, _<_}
 use mathlib.Core.Path.{_≡_}
@@ -82,12 +82,12 @@ power-on values block state = by-power-up (power-up-call values block state)
 
 -- ---- the observer's side
 
--- "line 0 the tool, line 1 service"
+-- R6.1
 unfoldable pub line-of : ℕ → Line
 line-of zero = tool
 line-of (suc n) = service
 
--- 0 is "answered": eight bytes. 5 is "client's abort taken": no answer. Any other number is a refusal and no event
+-- 0: eight bytes (R13.7). 5: no answer (R13.8). Any other number is a refusal and no event
 unfoldable pub answer-by : Back → Option (List ℕ)
 answer-by b = cond (eqb (b .number) 0) (some (take 8 (b .room))) (cond (eqb (b .number) 5) (some []) none)
 
@@ -123,7 +123,7 @@ observed ps = client (gauge bag552) (twoLines idle) (λ l. eight) (λ l. eightCo
 
 -- ---- the plain gauge's side
 
--- "Power-up: defaults everywhere, then NV entries from the saved block if it is not faulty; trips off"
+-- power-up (R9.1, R9.3)
 abbrev pub powered-store : List ℕ → Store
 powered-store block = record { memory = memory-of (fresh-values block) block; trips = all-off }
 
@@ -135,7 +135,7 @@ store-in a = store-of (a .values) (a .block) (a .state)
 abbrev pub board-in : Arrays → RecordBoard bag552
 board-in a = record { store = store-in a; records = record { onTool = record-at (a .state) 0; onService = record-at (a .state) 96 } }
 
--- ---- DEMAND 3, of the calls that C firmware makes
+-- ---- DEMAND 3, of the calls that C firmware makes (R15.7)
 
 module _ (values block state : List ℕ) (cs : List Exported) where
   -- the run, and what the observer makes of it
@@ -161,7 +161,7 @@ abbrev pub parts-asked : Line → List (Exported × Back) → ℕ
 parts-asked l ps = partsAsked bag552 l (calls-in ps)
 
 -- a message that is answered opens a read of an entry that holds these bytes, more than four, and these calls come after it: the line's own
--- messages among them ask for parts "with right toggles"; "the other line [is] free to do anything but a device reset"
+-- messages among them ask for parts with right toggles, and no device reset is done (R6.6)
 pub record ReadOpened (a : Arrays) (line : ℕ) (m room bytes : List ℕ) (cs : List Exported) : Type 0 where
   pub answered : (exported a (to-message line m room)) .1 .number ≡ 0
   pub key : Key

@@ -1,4 +1,4 @@
--- One name that opens every definition that a message and a power-up come to, and one that opens the observer and the plain gauge's
+-- SHAPE: one name that opens every definition that a message and a power-up come to, and one that opens the observer and the plain gauge's
 -- operations, for what is computed: `unfolding opened`. Assumes nothing.
 use lib.Ieee.{lt, isNan, ofBits, ofFields}
 use Rattle.wire.specs.Splice.{splice}

@@ -1,4 +1,4 @@
--- WHAT MEETS THE PROMISES: a board's message call is any function of what it is lent; each promise is one equation. Assumes nothing.
+-- RULE: WHAT MEETS THE PROMISES: a board's message call is any function of what it is lent; each promise is one equation. Assumes nothing.
 use Prim.Native.Nat.{ℕ}
 use mathlib.Core.Path.{_≡_}
 use mathlib.Core.List.{List}

@@ -1,5 +1,4 @@
--- A LINE OF TEXT: what it says, and what is printed (document 01: "Program `talk` reads lines "line message" and prints line and answer
--- in capital hex, `-` for none; a line that is not 0 or 1, one blank and sixteen hex digits prints `?`"). Bytes are ASCII codes.
+-- RULE: A TEXT LINE: what it says, and what is printed (R17.1, R17.2). Bytes are ASCII codes.
 use mathlib.Core.Bool.{Bool, true, false, cond, _&&_, _||_}
 use mathlib.Core.List.{List, [], _∷_, _++_}
 use Prim.Native.Nat.{ℕ, _+_, _-_, _*_, _/_, _%_}
@@ -27,7 +26,7 @@ pairs [] = []
 pairs (h ∷ []) = []
 pairs (h ∷ l ∷ rest) = (16 * digit-value h + digit-value l) ∷ pairs rest
 
--- "0 or 1, one blank and sixteen hex digits"
+-- 0 or 1, one blank, sixteen hex digits (R17.1)
 unfoldable pub is-message : List ℕ → Bool
 is-message l = eqb (length l) 18 && (between 48 (getD l 0 0) 49 && (eqb (getD l 1 0) 32 && all-digits (drop 2 l)))
 
@@ -54,7 +53,7 @@ spoken l = read (without-return l)
 
 -- ---- what is printed
 
--- "in capital hex"
+-- a capital hex digit (R17.1)
 unfoldable pub capital : ℕ → ℕ
 capital n = cond (ltb n 10) (48 + n) (55 + n)
 
@@ -69,7 +68,7 @@ message-text n bytes = (48 + n) ∷ 32 ∷ hex-text bytes
 unfoldable pub answer-text : ℕ → List ℕ → List ℕ
 answer-text n bytes = message-text n bytes ++ (10 ∷ [])
 
--- "`-` for none"
+-- a dash where there is no answer (R17.1)
 unfoldable pub none-text : ℕ → List ℕ
 none-text n = (48 + n) ∷ 32 ∷ 45 ∷ 10 ∷ []
 

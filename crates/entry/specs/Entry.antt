@@ -1,4 +1,4 @@
--- One row's entry in the values: what it reads as, what storing and its default make of the values, and its judgement.
+-- RULE: one row's entry in the values (R1.3, R1.6): what it reads as, what storing and its default make of the values, and its judgement.
 use mathlib.Core.Bool.{cond}
 use mathlib.Core.List.{List, [], _∷_}
 use Prim.Native.Nat.{ℕ}
@@ -15,11 +15,11 @@ use Rattle.entry.specs.declared.limits.Verdict.{Verdict}
 unfoldable pub held-by : ℕ → ℕ → ℕ
 held-by kind len = pick (leb CARD kind) 0 len
 
--- a row's bytes in the values; the card and the command words have none ("have no place")
+-- a row's bytes in the values; the card and the command words have none (R1.3)
 unfoldable pub entry-of : Row → List ℕ → List ℕ
 entry-of r values = take (held r) (drop (r .place) values)
 
--- an entry "held as it is now": 64 bytes, the row's first, then zeros
+-- an entry as it is held (R5.3): 64 bytes, the row's first, then zeros
 unfoldable pub copied : Row → List ℕ → List ℕ
 copied r values = splice (replicate 64 0) 0 (entry-of r values)
 
@@ -27,14 +27,14 @@ copied r values = splice (replicate 64 0) 0 (entry-of r values)
 unfoldable pub stored : Row → List ℕ → List ℕ → List ℕ
 stored r values bytes = splice values (r .place) bytes
 
--- a row's default ("Whole numbers and REAL are little-endian"; a string's is zeros)
+-- a row's default (R2.1, R2.7)
 unfoldable pub default-of : Row → List ℕ
 default-of r = little (held r) (r .def)
 
 unfoldable pub defaulted : Row → List ℕ → List ℕ
 defaulted r values = stored r values (default-of r)
 
--- "defaults everywhere", in table order
+-- all defaults, in the order of the table (R9.1)
 unfoldable pub defaults : List Row → List ℕ → List ℕ
 defaults [] values = values
 defaults (r ∷ rs) values = defaults rs (defaulted r values)

@@ -1,4 +1,4 @@
--- What a number is to the limits of its row (document 01, "Order of checks": "limits: not a number or wrong layout 06090030, above 06090031, below 06090032").
+-- RULE: what a number is to the limits of its row (R2.4).
 use mathlib.Core.Bool.{Bool, true, false}
 use Prim.Native.Nat.{ℕ}
 use lib.Dec.{eqb, ltb}
@@ -7,7 +7,7 @@ use Rattle.table.specs.Row.{REAL}
 use Rattle.entry.specs.declared.limits.Verdict.{Verdict}
 use Rattle.entry.specs.declared.limits.Verdict.the-variants.{Within, NotANumber, Above, Below}
 
--- document 01's number of each verdict
+-- the code of each verdict (R2.4)
 unfoldable pub verdict-code : Verdict → ℕ
 verdict-code Within = 0
 verdict-code NotANumber = 0x06090030
@@ -25,7 +25,7 @@ first-fault false false false = Within
 unfoldable pub whole-verdict : ℕ → ℕ → ℕ → Verdict
 whole-verdict low high v = first-fault false (ltb high v) (ltb v low)
 
--- a REAL goes by the floats that the patterns stand for ("plus infinity is above, minus infinity below", "minus zero is accepted")
+-- a REAL goes by the floats that the patterns stand for: infinities are outside (R2.4), both zeros are one (R2.5)
 unfoldable pub real-verdict : ℕ → ℕ → ℕ → Verdict
 real-verdict low high v =
     first-fault (isNan (ofBits binary32 v)) (lt (ofBits binary32 high) (ofBits binary32 v)) (lt (ofBits binary32 v) (ofBits binary32 low))

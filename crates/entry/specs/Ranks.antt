@@ -1,4 +1,4 @@
--- A number against limits that are ranks, their places in the order of the type, as the table's columns have them.
+-- SHAPE: a number against limits that are ranks, their places in the order of the type, as the table's columns have them.
 use mathlib.Core.Bool.{cond, _&&_}
 use Prim.Native.Nat.{ℕ}
 use lib.Dec.{eqb, ltb, leb}

@@ -1,4 +1,4 @@
--- Words of four bytes put into the values, one after the other.
+-- SHAPE: words of four bytes put into the values, one after the other.
 use mathlib.Core.List.{List, [], _∷_}
 use mathlib.Core.Path.{_≡_}
 use Prim.Native.Nat.{ℕ, _+_, _≤_, _<_}

@@ -1,5 +1,4 @@
--- What the table says of a key before a value is looked at: "index absent 06020000; subindex absent 06090011; reading a
--- write-only entry 06010001 (if the table has one), writing a read-only one 06010002". Assumes nothing.
+-- RULE: what the table says of a key before a value is looked at (R7.3, R7.4). Assumes nothing.
 use mathlib.Core.Path.{_≡_}
 use mathlib.Core.Bool.{cond}
 use Prim.Native.Nat.{ℕ}

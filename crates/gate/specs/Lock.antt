@@ -1,4 +1,4 @@
--- "The lock, when 1, refuses writes to NV entries, the card and the load command; never to itself." Assumes nothing.
+-- RULE: the lock (R7.9). Assumes nothing.
 use mathlib.Core.Bool.{Bool, _&&_, _||_}
 use mathlib.Core.List.{List}
 use Prim.Native.Nat.{ℕ}

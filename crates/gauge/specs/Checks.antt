@@ -1,4 +1,4 @@
--- THE CHECKS of a whole read and of a whole write: named tests in document 01's order, each with its code. The first that fails
+-- RULE: THE CHECKS of a whole read and of a whole write: named tests in their order (R7.1), each with its code. The first that fails
 -- refuses; what passes them all is served. Assumes nothing.
 use mathlib.Core.Bool.{Bool, true, false, cond}
 use mathlib.Core.List.{List, [], _∷_, map}
@@ -19,7 +19,7 @@ use Rattle.gauge.specs.Whole.{Check, check, first-code, is-code, value-o
 
 -- ---- what is asked
 
--- a whole write: the way to "the entry, the length announced or meant, if any, and the bytes sent"; and the values as they stand
+-- a whole write: what the key leads to, the length announced or meant, if any, the bytes sent (R15.6), and the values as they stand
 pub record Asked : Type 0 where
   pub found : Found
   pub said : Said
@@ -127,12 +127,11 @@ fails too-low a = is-code 0x06090032 (row-asked a) (sent a)
 
 -- ---- the order
 
--- "index absent 06020000; subindex absent 06090011; reading a write-only entry 06010001"
+-- R7.3, R7.4
 unfoldable pub read-order : List Test
 read-order = no-such-index ∷ no-such-subindex ∷ only-written ∷ []
 
--- "index absent 06020000; subindex absent 06090011; .. writing a read-only one 06010002; too long 06070012, too short 06070013
--- [announced, then sent]; lock 08000022; limits: not a number or wrong layout 06090030, above 06090031, below 06090032"
+-- R7.3 to R7.7: of the lengths the announced one first, then what was sent (R7.8)
 unfoldable pub write-order : List Test
 write-order =
     no-such-index ∷

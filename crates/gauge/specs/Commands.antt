@@ -1,4 +1,4 @@
--- "Commands": what a command word does when it is written. Assumes nothing.
+-- RULE: what a command word does when it is written. Assumes nothing.
 use mathlib.Core.Bool.{Bool, cond}
 use mathlib.Core.List.{List}
 use Prim.Native.Nat.{ℕ}
@@ -16,9 +16,7 @@ use Rattle.gauge.specs.PowerUp.{powered-up}
 unfoldable pub status-by : Bool → ℕ
 status-by right = cond right 0 2
 
--- the right word: "Device reset answers, then does power-up"; "Exception reset clears the latched words"; "Store writes the
--- block, or gives status 2 and writes nothing in it if a lent NV value is outside its limits"; "Load takes the saved block
--- whole, or status 2 if it is faulty"; "Done gives 0"
+-- the right word (R8.4 to R8.8)
 unfoldable pub done : Command → Memory → Outcome Memory
 done DeviceReset m = restarted (powered-up m)
 done ExceptionReset m = stored (with-values m (with-status ExceptionReset 0 (exceptions-cleared (m .values))))
@@ -27,6 +25,6 @@ done StoreParameters m =
 done LoadParameters m =
     stored (with-values m (with-status LoadParameters (status-by (loadable (m .block))) (loaded (m .block) (m .values))))
 
--- "A wrong word is an accepted write: nothing else happens, status and response byte 0 become 2"
+-- a wrong word is accepted, and only the status says so (R8.3)
 unfoldable pub obeyed : Command → List ℕ → Memory → Outcome Memory
 obeyed c bytes m = cond (same-bytes bytes (word-of c)) (done c m) (stored (with-values m (with-status c 2 (m .values))))

@@ -1,4 +1,4 @@
--- How a whole write ends, as the code says it: document 01's numbers for each case, and what is left in the memory. Assumes nothing.
+-- SHAPE: how a whole write ends, as the code's enum says it (R16.8), and what is left in the memory. Assumes nothing.
 use mathlib.Core.List.{List}
 use Prim.Native.Nat.{ℕ}
 use Rattle.order.specs.Talk.{Outcome, stored, restarted, declined}
@@ -15,7 +15,7 @@ pub record Left : Type 0 where
 abbrev pub left : Ending → List ℕ → List ℕ → Left
 left e values block = record { ending = e; values = values; block = block }
 
--- "what is refused changes nothing"
+-- what is refused changes nothing (R7.10)
 unfoldable pub left-by : Memory → Outcome Memory → Left
 left-by m (stored n) = left Accepted (n .values) (n .block)
 left-by m (restarted n) = left Restarted (n .values) (n .block)

@@ -1,4 +1,4 @@
--- What the plain gauge remembers. Assumes nothing.
+-- RULE: what the plain gauge remembers. Assumes nothing.
 use mathlib.Core.List.{List}
 use Prim.Native.Nat.{ℕ}
 use Rattle.trip.specs.declared.Trips.{Trips}

@@ -1,5 +1,4 @@
--- "Power-up: defaults everywhere, then NV entries from the saved block if it is not faulty; trips off, words and bytes of no
--- entry zero". The lines' records are the board's. Assumes nothing.
+-- RULE: power-up (R9.1, R9.2). Trips and the lines' records are the board's. Assumes nothing.
 use mathlib.Core.List.{List}
 use Prim.Native.Nat.{ℕ}
 use lib.ListN.{replicate}

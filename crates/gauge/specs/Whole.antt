@@ -1,4 +1,4 @@
--- THE PLAIN GAUGE'S WHOLE READ AND WHOLE WRITE of one row. Assumes nothing.
+-- RULE: THE PLAIN GAUGE'S WHOLE READ AND WHOLE WRITE of one row (R15.6). Assumes nothing.
 use mathlib.Core.Bool.{Bool, cond}
 use mathlib.Core.List.{List, [], _∷_}
 use Prim.Native.Nat.{ℕ}
@@ -36,7 +36,7 @@ read-through (no-way code) values = denied code
 unfoldable pub read-whole : Store → ℕ → ℕ → Read
 read-whole g index sub = read-through (read-gate (find-row index sub)) (g .memory .values)
 
--- ---- writing: what is judged at the last message, in document 01's order, each test with its code
+-- ---- writing: what is judged at the last message, in order, each test with its code (R7.6, R7.7)
 
 -- a named test: the code that it gives where it refuses
 pub record Check : Type 0 where
@@ -51,14 +51,14 @@ unfoldable pub first-code : List Check → ℕ
 first-code [] = 0
 first-code (c ∷ cs) = cond (c .refuses) (c .code) (first-code cs)
 
--- "limits: not a number or wrong layout 06090030, above 06090031, below 06090032"
+-- R7.7
 unfoldable pub verdict-of : Row → List ℕ → Verdict
 verdict-of r bytes = cond (eqb (r .kind) CARD) (card-verdict bytes) (row-verdict r bytes)
 
 abbrev pub is-code : ℕ → Row → List ℕ → Bool
 is-code code r bytes = eqb (verdict-code (verdict-of r bytes)) code
 
--- "lock 08000022; limits .."
+-- R7.6, R7.7
 unfoldable pub last-checks : Row → List ℕ → List ℕ → List Check
 last-checks r values bytes =
     check 0x08000022 (locked r values) ∷
@@ -67,7 +67,7 @@ last-checks r values bytes =
     check 0x06090032 (is-code 0x06090032 r bytes) ∷
     []
 
--- what an accepted write does, "at once"
+-- what an accepted write does
 unfoldable pub effect : Row → List ℕ → Memory → Outcome Memory
 effect r bytes m =
     by-type r (stored (with-values m (with-card (m .values) bytes)))

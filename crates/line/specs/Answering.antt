@@ -1,4 +1,4 @@
--- The reply to a message, by what it says, as the code makes it; `speak` of crate sdo is what the calls are held to, and
+-- SHAPE: the reply to a message, by what it says, as the code makes it; `speak` of crate sdo is what the calls are held to, and
 -- board/proofs/Spoken shows that the two agree. Assumes nothing.
 use mathlib.Core.List.{List}
 use mathlib.Core.Bool.{Bool, true, false, cond}
@@ -83,7 +83,7 @@ kept state eight = record { state = state; eight = eight }
 unfoldable pub replied : ℕ → List ℕ → Reply → Kept
 replied at state r = kept (splice state at (record-bytes (r .next))) (r .eight)
 
--- "Device reset answers, then does power-up and drops both lines' transfers"; a message leaves all else of the state
+-- a device reset drops both lines' transfers (R8.8); a message leaves all else of the state (R6.1)
 unfoldable pub settled : ℕ → Transfer → Bool → List ℕ → List ℕ
 settled at next reset state = cond reset (dropped state) (splice state at (record-bytes next))
 

@@ -1,4 +1,4 @@
--- DEMAND 3 ON BYTES: each line has a codec; the board is given bytes and gives bytes, and the client sees only these.
+-- RULE: DEMAND 3 ON BYTES: each line has a codec; the board is given bytes and gives bytes, and the client sees only these.
 use Prim.Native.Nat.{ℕ}
 use mathlib.Core.Path.{_≡_}
 use mathlib.Core.List.{List, [], _∷_, map}

@@ -1,4 +1,4 @@
--- THE PLAIN GAUGE: it knows no messages, no parts and no lines. It is given whole reads, whole writes and samples, one after the other.
+-- RULE: THE PLAIN GAUGE (R15.6): it knows no messages, no parts and no lines. It is given whole reads, whole writes and samples, one after the other.
 use Prim.Native.Nat.{ℕ}
 use mathlib.Core.Bool.{cond}
 use mathlib.Core.List.{List, [], _∷_}
@@ -8,7 +8,7 @@ use lib.ListN.{length, take}
 use Rattle.order.specs.Talk.{Said, announced, unsaid, own, Read, value, denied, Sizes, sizes, closed, Outcome, stored, restarted, declined, Result, gave, yes!, code, taken}
 
 -- A gauge, entry by entry. `readWhole` judges index, subindex and access and gives the value. `rowOf` is what the table says of
--- writing the entry; it has no store among its arguments. `commit` is given bytes of an allowed length: "lock; limits", then the write with its
+-- writing the entry; it has no store among its arguments. `commit` is given bytes of an allowed length: lock, limits, then the write with its
 -- effects. `sampled` is the store after a sample
 pub record Gauge : Type 1 where
   pub Store : Type 0
@@ -19,14 +19,14 @@ pub record Gauge : Type 1 where
   pub commit : Store → Key → List ℕ → Outcome Store
   pub sampled : Store → Sample → Store
 
--- "too long 06070012, too short 06070013"
+-- R7.5
 abbrev pub tooLong : ℕ
 tooLong = 0x06070012
 
 abbrev pub tooShort : ℕ
 tooShort = 0x06070013
 
--- the length announced or meant, held against the table's smallest and largest: "announced .. length [is] judged at opening"
+-- the length announced or meant, held against the table's smallest and largest (R7.8)
 unfoldable pub narrowed : ℕ → ℕ → Said → Sizes
 narrowed low high (announced n) = cond (ltb high n) (closed tooLong) (cond (ltb n low) (closed tooShort) (sizes n n))
 narrowed low high unsaid = sizes low high
@@ -37,7 +37,7 @@ unfolding narrowed
 narrow (sizes low high) s = narrowed low high s
 narrow (closed c) s = closed c
 
--- "else the entry's own length is meant": of the four bytes only so many count
+-- where the entry's own length is meant, only so many of the four bytes count (R5.5)
 unfoldable pub counted : Said → ℕ → List ℕ → List ℕ
 counted (announced n) high bytes = bytes
 counted unsaid high bytes = bytes
@@ -49,7 +49,7 @@ say none = unsaid
 say (some n) = announced n
 
 module _ (P : Gauge) where
-  -- "too long 06070012, too short 06070013; lock ..; limits .."
+  -- lengths first, then lock and limits (R7.5 to R7.7)
   unfoldable pub judged : P .Store → P .Key → ℕ → ℕ → List ℕ → Outcome (P .Store)
   judged g k low high bytes = cond (ltb high (length bytes)) (declined tooLong) (cond (ltb (length bytes) low) (declined tooShort) (P .commit g k bytes))
 
@@ -62,8 +62,7 @@ module _ (P : Gauge) where
   abbrev pub allowed : P .Key → Said → Sizes
   allowed k s = narrow (P .rowOf k) s
 
-  -- A WHOLE WRITE, in document 01's order of checks: "the plain gauge is given the entry, the length announced or meant, if any,
-  -- and the bytes sent"
+  -- A WHOLE WRITE (R15.6), in the order of the checks (R7.1)
   unfoldable pub writeWhole : P .Store → P .Key → Said → List ℕ → Outcome (P .Store)
   unfolding judgedBy
   writeWhole g k s bytes = judgedBy g k s bytes (allowed k s)
@@ -83,7 +82,7 @@ module _ (P : Gauge) where
   writeResult (restarted g) = yes!
   writeResult (declined c) = code c
 
-  -- "An abort answer .. leaves values and block as they were"
+  -- R7.10
   unfoldable pub written : P .Store → Outcome (P .Store) → P .Store
   written g (stored g′) = g′
   written g (restarted g′) = g′

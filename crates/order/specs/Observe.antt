@@ -1,6 +1,5 @@
--- THE CLIENT'S SIDE: which reads and writes are finished, with what, and where each is put in the order. It is given requests and
--- answers, and nothing of the board's memory. "A read is finished with the answer that closes it": it is put at its opening. "A write is
--- finished when its last message is answered with yes, or when a message of it gets a code from 06020000 on": it is put at that message.
+-- RULE: THE CLIENT'S SIDE: which reads and writes are finished, with what, and where each is put in the order. It is given requests and
+-- answers, and nothing of the board's memory. A read is put at its opening (R15.2), a write at the message that ends it (R15.3).
 use Prim.Native.Nat.{ℕ}
 use mathlib.Core.Path.{_≡_}
 use mathlib.Core.Bool.{Bool, true, false, cond}
@@ -53,7 +52,7 @@ module _ {K : Type 0} where
   ended noTransfer = none
   ended silent = none
 
-  -- what ends a write at an earlier message: a code from 06020000 on, "which is then its last"
+  -- what ends a write at an earlier message: a code from 06020000 on (R15.3)
   unfoldable pub refusedBy : Answer K → Option Result
   refusedBy (opened k n bytes all) = none
   refusedBy (partGiven t bytes last) = none
@@ -79,7 +78,7 @@ module _ {K : Type 0} where
   noted nothing bytes last = nothing
   noted (sending k n sent) bytes last = cond last nothing (sending k n (sent ++ bytes))
 
-  -- what the client remembers after a message of the line and its answer: "A code that stands before 06020000 only drops a transfer"
+  -- what the client remembers after a message of the line and its answer; a code before 06020000 only drops a transfer (R15.5)
   unfoldable pub note : Seen K → Request K → Answer K → Seen K
   unfolding if-yes noted
   note o (openRead k) t = nothing
@@ -118,8 +117,7 @@ module _ (P : Gauge) where
   partDone nothing bytes last t = none
   partDone (sending k n sent) bytes last t = Option·map (λ r. (write k (say n) (sent ++ bytes), r)) (cond last (ended t) (refusedBy t))
 
-  -- the operation to be put at this message, if any: "the plain gauge is given the entry, the length announced or meant, if any, and
-  -- the bytes sent"
+  -- the operation to be put at this message, if any (R15.2, R15.3), with what the plain gauge is given (R15.6)
   unfoldable pub finished : Seen (P .Key) → Request (P .Key) → Answer (P .Key) → (List ℕ → Option (List ℕ)) → Option Done
   unfolding readDone partDone ended refusedBy
   finished o (openRead k) t ahead = readDone k t ahead
@@ -165,7 +163,7 @@ module _ (P : Gauge) where
     observeOne os (message l a) t ahead rest = placed (finished (os l) a t (ahead l)) (rest (remember os l (note (os l) a t)))
     observeOne os (sample s) t ahead rest = (feed s, taken) ∷ rest os
 
-    -- THE OBSERVER: reads at their opening, writes at the message that ends them, samples at their place
+    -- THE OBSERVER: reads at their opening, writes at the message that ends them, samples at their place (R15.2 to R15.4)
     unfoldable pub observe : Pairs → Seens → List Done
     unfolding observeOne
     observe [] os = []

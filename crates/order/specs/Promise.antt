@@ -1,4 +1,4 @@
--- DEMAND 3, freed of bytes. `Serial` is what a reader has to believe, with the definitions that it names.
+-- RULE: DEMAND 3, freed of bytes. `Serial` is what a reader has to believe, with the definitions that it names.
 use Prim.Native.Nat.{ℕ, suc, _+_, _*_, _≤_, _<_}
 use mathlib.Core.Path.{_≡_}
 use mathlib.Core.Bool.{Bool, true, false, cond, not}
@@ -57,12 +57,12 @@ module _ (P : Gauge) (W : Wires (Pending (P .Key)) idle) (F : W .Line → Form) 
   abbrev pub doneIn : P .Store → List (Event P W F) → List (Done P)
   doneIn g es = observe P W F (trace P W F (start g) es) (fresh P W F)
 
-  -- THE ORDER: the plain gauge, given these operations one at a time, gives the same results and ends with the same store
+  -- THE ORDER (R15.7): the plain gauge, given these operations one at a time, gives the same results and ends with the same store
   pub record Serial (g : P .Store) (es : List (Event P W F)) : Type 0 where
     pub same-results : results P g (opsOf P (doneIn g es)) ≡ gotOf P (doneIn g es)
     pub same-end : endOf P g (opsOf P (doneIn g es)) ≡ (run P W F (start g) es) .store
 
-  -- "With right toggles": the messages of line l ask for parts, with right toggles from t on; "the other line [is] free", and samples too
+  -- the messages of line l ask for parts, with right toggles from t on (R6.3); other lines and samples are free
   abbrev pub Right : W .Line → List (Event P W F) → Bool → Type 0
   Right l [] t = Unit {0}
   Right l (sample s ∷ es) t = Right l es t
@@ -74,13 +74,13 @@ module _ (P : Gauge) (W : Wires (Pending (P .Key)) idle) (F : W .Line → Form) 
   count l (sample s ∷ es) = count l es
   count l (message m a ∷ es) = pick P W F (W .same l m) (suc (count l es)) (count l es)
 
-  -- "anything but a device reset": none is done in this run
+  -- no device reset is done in this run
   abbrev pub Calm : Board P W F → List (Event P W F) → Type 0
   Calm b [] = Unit {0}
   Calm b (sample s ∷ es) = Calm ((step P W F b (sample s)) .0) es
   Calm b (message m a ∷ es) = Spares ((serve P (F m) (b .store) (W .at (b .lines) m) a) .after) × Calm ((step P W F b (message m a)) .0) es
 
-  -- THE COUNT: a read of which `place` bytes are got, on line l, ends with its bytes once its parts reach the end, and not before
+  -- THE COUNT (R6.6): a read of which `place` bytes are got, on line l, ends with its bytes once its parts reach the end, and not before
   pub record Ends (l : W .Line) (bytes : List ℕ) (place : ℕ) (b : Board P W F) (es : List (Event P W F)) : Type 0 where
     pub at-last : length bytes ≤ place + count l es * F l .size → follow P W F l (trace P W F b es) (take place bytes) ≡ some bytes
     pub not-before : place + count l es * F l .size < length bytes → follow P W F l (trace P W F b es) (take place bytes) ≡ none

@@ -1,4 +1,4 @@
--- One line's serving, and the board: a store and what each line holds.
+-- RULE: one line's serving, and the board: a store and what each line holds.
 use Prim.Native.Nat.{ℕ, _+_, _≤_}
 use mathlib.Core.Path.{_≡_}
 use mathlib.Core.Logic.{_≢_}
@@ -45,7 +45,7 @@ module _ (P : Gauge) where
     pub after : After (P .Key)
     pub answer : Answer (P .Key)
 
-  -- the line's transfer is ended or dropped: "Every abort drops it too"
+  -- the line's transfer is ended or dropped (R6.2); a store that is handed on unchanged is R6.7
   abbrev pub over : P .Store → Answer (P .Key) → Served
   over g t = record { store = g; after = kept idle; answer = t }
 
@@ -53,7 +53,7 @@ module _ (P : Gauge) where
   abbrev pub onwards : P .Store → Pending (P .Key) → Answer (P .Key) → Served
   onwards g x t = record { store = g; after = kept x; answer = t }
 
-  -- "open a read .. Longer: 41 with the length in bytes 4-7, and the value is held as it is now"
+  -- open a read: all at once, or the value is held as it is now (R5.2, R5.3)
   unfoldable pub readOpening : Form → P .Store → P .Key → Read → Served
   readOpening F g k (denied c) = over g (refused k c)
   readOpening F g k (value bytes) =
@@ -61,14 +61,14 @@ module _ (P : Gauge) where
       (over g (opened k (length bytes) (take (F .carried (length bytes)) bytes) true))
       (onwards g (reading k bytes (F .carried (length bytes)) false) (opened k (length bytes) (take (F .carried (length bytes)) bytes) false))
 
-  -- the part from `place` on: "bit 0 set on the last part"
+  -- the part from `place` on, marked if it is the last (R5.4)
   unfoldable pub givePart : Form → P .Store → P .Key → List ℕ → ℕ → Bool → Served
   givePart F g k bytes place t =
       cond (leb (length bytes) (place + F .size))
       (over g (partGiven t (take (F .size) (drop place bytes)) true))
       (onwards g (reading k bytes (place + F .size) (not t)) (partGiven t (take (F .size) (drop place bytes)) false))
 
-  -- "next part of a read": "matching transfer 05040001; toggle 05030000"
+  -- next part of a read: the transfer, then the toggle (R7.2)
   unfoldable pub readPart : Form → P .Store → Pending (P .Key) → Bool → Served
   unfolding givePart
   readPart F g idle u = over g noTransfer
@@ -81,20 +81,19 @@ module _ (P : Gauge) where
   conclude g k answer (restarted g′) = record { store = g′; after = wiped; answer = answer }
   conclude g k answer (declined c) = over g (refused k c)
 
-  -- a message of a write, `all` being the bytes sent with it and before it, `last` whether it is the last one:
-  -- "parts that overrun give 06070012 at that message, a last part that ends short gives 06070013. Lock and limits are judged at the last message"
+  -- a message of a write, `all` being the bytes sent with it and before it, `last` whether it is the last one (R7.8)
   unfoldable pub takePart : P .Store → P .Key → ℕ → ℕ → List ℕ → Bool → Bool → Answer (P .Key) → Served
   unfolding conclude judged
   takePart g k low high all t true answer = conclude g k answer (judged P g k low high all)
   takePart g k low high all t false answer = cond (ltb high (length all)) (over g (refused k tooLong)) (onwards g (writing k low high all t) answer)
 
-  -- "open a write": "Index to access and announced .. length are judged at opening"
+  -- open a write: what is judged there (R7.8)
   unfoldable pub writeOpening : P .Store → P .Key → List ℕ → Sizes → Served
   unfolding takePart
   writeOpening g k bytes (closed c) = over g (refused k c)
   writeOpening g k bytes (sizes low high) = takePart g k low high bytes false false (writeOpened k)
 
-  -- "next part of a write"
+  -- next part of a write: the transfer, then the toggle (R7.2)
   unfoldable pub writePart : P .Store → Pending (P .Key) → Bool → List ℕ → Bool → Served
   unfolding takePart
   writePart g idle u bytes last = over g noTransfer
@@ -102,8 +101,7 @@ module _ (P : Gauge) where
   writePart g (writing k low high sent t) u bytes last =
       cond (Bool·beq t u) (takePart g k low high (sent ++ bytes) (not t) last (partTaken t)) (over g (wrongToggle k))
 
-  -- ONE REQUEST on a line that holds x. "Opening anew on a line drops that line's older transfer"; "4, the client gives up:
-  -- transfer dropped, no answer. 5 to 7: unknown"
+  -- ONE REQUEST on a line that holds x: an opening drops what it holds (R6.2), the client's abort too (R5.9)
   unfoldable pub serve : Form → P .Store → Pending (P .Key) → Request (P .Key) → Served
   unfolding readOpening readPart conclude writeOpening writePart writeWhole
   serve F g x (openRead k) = readOpening F g k (P .readWhole g k)
@@ -124,7 +122,7 @@ module _ (P : Gauge) where
       message : W .Line → Request (P .Key) → Event
       sample : P .Sample → Event
 
-    -- "Device reset answers, then does power-up and drops both lines' transfers"
+    -- a device reset drops the transfers of all lines (R8.8)
     abbrev pub leave : W .Lines → W .Line → After (P .Key) → W .Lines
     leave ls l (kept x) = W .with ls l x
     leave ls l wiped = W .clear

@@ -1,17 +1,17 @@
--- What is said on a line, freed of its bytes: requests, answers, what a whole read or write comes to, and what a line holds.
--- `K` is the type of keys: what names an entry (document 01: "index is bytes 1-2 little-endian, subindex byte 3").
+-- RULE: what is said on a line, freed of its bytes: requests, answers, what a whole read or write comes to, and what a line holds.
+-- `K` is the type of keys: what names an entry.
 use Prim.Native.Nat.{ℕ}
 use mathlib.Core.Bool.{Bool}
 use mathlib.Core.List.{List}
 use mathlib.Core.Option.{Option}
 
--- "the length announced or meant, if any": announced; not said; or meant, "the entry's own length is meant"
+-- the length of a write: announced (R5.6); not said; or the entry's own is meant (R5.5)
 pub data Said : Type 0 where
   announced : ℕ → Said
   unsaid : Said
   own : Said
 
--- "Top three bits of byte 0 choose": 2, 3, 1 with the value in it, 1 without, 0, 4, and "5 to 7: unknown".
+-- by the specifier: 2, 3, 1 with the value in it, 1 without, 0, 4, and 5 to 7 (R5.2 to R5.9).
 -- Toggles are Bools; the last Bool of `sendPart` marks the last part; `openWrite` may carry bytes in a longer form of a line
 pub data Request (K : Type 0) : Type 0 where
   openRead : K → Request K
@@ -24,7 +24,7 @@ pub data Request (K : Type 0) : Type 0 where
 
 -- `opened` answers the opening of a read: key, length, the bytes that it carries, whether these are all. `partGiven` is a part
 -- of a read, `writeOpened` is 60 and `partTaken` 20 or 30. `refused` gives a code from 06020000 on. The two codes before it, which
--- "only drop a transfer", are `wrongToggle` (05030000) and `noTransfer` (05040001). `silent`: "no answer"
+-- only drop a transfer (R15.5), are `wrongToggle` (05030000) and `noTransfer` (05040001). `silent`: no answer
 pub data Answer (K : Type 0) : Type 0 where
   opened : K → ℕ → List ℕ → Bool → Answer K
   partGiven : Bool → List ℕ → Bool → Answer K
@@ -40,18 +40,18 @@ pub data Read : Type 0 where
   value : List ℕ → Read
   denied : ℕ → Read
 
--- what the table says of writing an entry: the smallest and the largest length, or a code ("Index to access .. are judged at opening")
+-- what the table says of writing an entry: the smallest and the largest length, or a code (R7.8)
 pub data Sizes : Type 0 where
   sizes : ℕ → ℕ → Sizes
   closed : ℕ → Sizes
 
--- a whole write: a new store; a new store after a device reset, which "drops both lines' transfers"; or a code
+-- a whole write: a new store; a new store after a device reset, which drops both lines' transfers (R8.8); or a code
 pub data Outcome (G : Type 0) : Type 0 where
   stored : G → Outcome G
   restarted : G → Outcome G
   declined : ℕ → Outcome G
 
--- a line's transfer: of a read the value "held as it is now", the place and the toggle to come; of a write the smallest
+-- a line's transfer: of a read the value as it was held (R5.3), the place and the toggle to come; of a write the smallest
 -- and the largest length, the bytes sent so far and the toggle to come
 pub data Pending (K : Type 0) : Type 0 where
   idle : Pending K

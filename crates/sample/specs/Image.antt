@@ -1,4 +1,4 @@
--- The cyclic image: "the default mapping of 000, 4.2.1, least significant bit first".
+-- RULE: the cyclic image (R12.1).
 use mathlib.Core.List.{List, [], _∷_}
 use Prim.Native.Nat.{ℕ, _+_, _*_, _^_}
 use Rattle.wire.specs.Little.{little, number}

@@ -1,4 +1,4 @@
--- What a sample does to the values and to the trips (document 01, "Samples, trips and words").
+-- RULE: what a sample does to the values and to the trips (R10.1 to R10.10).
 use mathlib.Core.Bool.{cond}
 use mathlib.Core.List.{List}
 use Prim.Native.Nat.{ℕ, _+_, _*_}
@@ -12,7 +12,7 @@ use Rattle.trip.specs.Trip.{usable-pressure, point-next, point-after}
 use Rattle.table.specs.Places.{input-value, trip-input-1, trip-input-2, reading-valid, status-1, status-2, trip-outputs, settings-1, settings-2, high-enable, low-enable, high-level, low-level, high-hysteresis, low-hysteresis, power-on-time}
 use Rattle.sample.specs.Faults.{with-faults, with-summary}
 
--- a trip point's settings, from their place on; "a lent enable byte other than 0 is 1"
+-- a trip point's settings, from their place on, as they stand now (R10.10, R3.6)
 unfoldable pub settings : List ℕ → ℕ → Point
 settings l at =
     record {
@@ -45,12 +45,12 @@ trips-after l was p valid =
       two = point-after (settings l settings-2) (was .two) p valid;
     }
 
--- "the pressure becomes the input value (the trip points' too), reading valid is 1"
+-- R10.4
 abbrev pub with-pressure : Float → List ℕ → List ℕ
 with-pressure p l =
     put-number (put-number (put-number (put-number l input-value 4 (toBits binary32 p)) trip-input-1 4 (toBits binary32 p)) trip-input-2 4 (toBits binary32 p)) reading-valid 1 1
 
--- not usable: "the input value stays, reading valid is 0"
+-- R10.3
 abbrev pub with-none : List ℕ → List ℕ
 with-none l = put-number l reading-valid 1 0
 
@@ -61,7 +61,7 @@ with-reading p valid l = cond (usable-pressure p valid) (with-pressure p l) (wit
 unfoldable pub trip-word : Trips → ℕ
 trip-word t = bit (t .one .high) + bit (t .one .low) * 2 + bit (t .two .high) * 4 + bit (t .two .low) * 8
 
--- the status entries show each side
+-- the status entries show each side (R10.9)
 unfoldable pub with-trips : Trips → List ℕ → List ℕ
 with-trips t l =
     put-number
@@ -70,7 +70,7 @@ with-trips t l =
     4
     (trip-word t)
 
--- the values after a sample; seconds are "copied, even if smaller"
+-- the values after a sample; seconds are copied (R10.1)
 unfoldable pub values-after : List ℕ → Trips → Float → ℕ → ℕ → ℕ → List ℕ
 values-after l was p valid faults seconds =
     put-number (with-summary (with-faults faults (with-trips (trips-after l was p valid) (with-reading p valid l)))) power-on-time 4 seconds

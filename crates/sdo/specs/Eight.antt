@@ -1,5 +1,5 @@
--- EIGHT BYTES IN, EIGHT BYTES OUT: `askOf` is what a message asks, `answerOf` the bytes of an answer, and `tellOf` what a client
--- reads in them. Bits and bytes of a message to which document 01 gives no meaning have none.
+-- RULE: EIGHT BYTES IN, EIGHT BYTES OUT: `askOf` is what a message asks, `answerOf` the bytes of an answer, and `tellOf` what a client
+-- reads in them. Bits and bytes of a message that no rule names are not looked at (R5.11).
 use Prim.Native.Nat.{ℕ, zero, suc, _+_, _-_, _*_, _/_, _%_, _≤_, _<_}
 use mathlib.Core.Path.{_≡_}
 use mathlib.Core.Bool.{Bool, true, false, cond}
@@ -15,7 +15,7 @@ use Rattle.sdo.specs.declared.Opening.the-variants.{Value, Own, Announce
 use Rattle.sdo.specs.declared.Message.{Message}
 use Rattle.sdo.specs.declared.Message.the-variants.{SendPart, OpenWrite, OpenRead, NextPart, GiveUp, Unknown}
 
--- "Index is bytes 1-2 little-endian, subindex byte 3"
+-- R5.1
 abbrev pub keyOf : List ℕ → Key
 keyOf m = record { index = getD m 1 0 + 256 * getD m 2 0; sub = getD m 3 0 }
 
@@ -30,7 +30,7 @@ abbrev pub one : Bool → ℕ
 one true = 1
 one false = 0
 
--- "Top three bits of byte 0 choose": 0 to 4, and 5 to 7 as a range
+-- by the specifier (R5.1): 0 to 4, and 5 to 7 as a range
 unfoldable pub choice : {A : Type 0} → ℕ → A → A → A → A → A → A → A
 choice zero a₀ a₁ a₂ a₃ a₄ above = a₀
 choice (suc zero) a₀ a₁ a₂ a₃ a₄ above = a₁
@@ -39,8 +39,7 @@ choice (suc (suc (suc zero))) a₀ a₁ a₂ a₃ a₄ above = a₃
 choice (suc (suc (suc (suc zero)))) a₀ a₁ a₂ a₃ a₄ above = a₄
 choice (suc (suc (suc (suc (suc n))))) a₀ a₁ a₂ a₃ a₄ above = above
 
--- "1, open a write. Bit 1 set: value in bytes 4-7; with bit 0 set, bits 3..2 give the unused bytes, else the entry's own length is meant ..
--- Bit 1 clear: length announced in bytes 4-7 if bit 0 is set, else unknown"
+-- the opening of a write, by bits 1 and 0 (R5.5, R5.6)
 unfoldable pub openingBy : Bool → Bool → List ℕ → Opening
 openingBy true true m = Value (4 - getD m 0 0 / 4 % 4)
 openingBy true false m = Own
@@ -50,7 +49,7 @@ openingBy false false m = Unsaid
 abbrev pub openingOf : List ℕ → Opening
 openingOf m = openingBy (bit 2 (getD m 0 0)) (bit 1 (getD m 0 0)) m
 
--- what a message says; a part is laid out as an answer's: "toggle in bit 4, unused bytes of seven in bits 3..1, bit 0 set on the last part"
+-- what a message says; a part is laid out as an answer's (R5.4, R5.8)
 unfoldable pub messageOf : List ℕ → Message
 unfolding choice openingBy
 messageOf m =
@@ -78,14 +77,14 @@ unfoldable pub askOf : List ℕ → Request Key
 unfolding asked messageOf
 askOf m = asked (messageOf m) m
 
--- "specifier and matching transfer 05040001; toggle 05030000"
+-- R7.2
 abbrev pub transferCode : ℕ
 transferCode = 0x05040001
 
 abbrev pub toggleCode : ℕ
 toggleCode = 0x05030000
 
--- "An abort answer is 80, index, subindex, code little-endian; with 05040001 index and subindex are zero"
+-- the bytes of an answer (R5.2 to R5.4, R5.7, R5.8), of an abort (R5.10)
 unfoldable pub answerOf : Answer Key → List ℕ
 unfolding little
 answerOf (opened k n bytes true) = (0x43 + 4 * (4 - length bytes)) ∷ keyBytes k ++ bytes ++ replicate (4 - length bytes) 0

@@ -1,4 +1,4 @@
--- TWO LINES OF EIGHT BYTES over a gauge that is given by its entries, and demand 3 there.
+-- RULE: TWO LINES OF EIGHT BYTES over a gauge that is given by its entries, and demand 3 there.
 use Prim.Native.Nat.{ℕ, _≤_, _<_}
 use mathlib.Core.Path.{_≡_, refl}
 use mathlib.Core.Logic.{_≢_}
@@ -29,14 +29,14 @@ pub record Entries : Type 1 where
 abbrev pub gauge : Entries → Gauge
 gauge E = record { Store = E .Store; Key = Key; Sample = E .Sample; readWhole = E .readWhole; rowOf = E .rowOf; commit = E .commit; sampled = E .sampled }
 
--- what is asked of the entries: a value's length fits "the length in bytes 4-7", and every code is one from 06020000 on
+-- what is asked of the entries: a value's length fits into four bytes (R5.3), and every code is one from 06020000 on
 pub record Sound (E : Entries) : Type 0 where
   pub value-fits : (g : E .Store) (k : Key) (bytes : List ℕ) → E .readWhole g k ≡ value bytes → length bytes < 0x1_0000_0000
   pub read-code : (g : E .Store) (k : Key) (c : ℕ) → E .readWhole g k ≡ denied c → Code c
   pub row-code : (k : Key) (c : ℕ) → E .rowOf k ≡ closed c → Code c
   pub commit-code : (g : E .Store) (k : Key) (bytes : List ℕ) (c : ℕ) → E .commit g k bytes ≡ declined c → Code c
 
--- "Up to 4 bytes: answer 4F, 4B, 47 or 43 .. with the value"; longer ones in parts of seven
+-- up to four bytes at once, longer ones in parts of seven (R5.2 to R5.4)
 abbrev pub short : ℕ → Bool
 short n = leb 1 n && leb n 4
 
@@ -53,7 +53,7 @@ short-all n = go (short n)
 unfoldable pub eight : Form
 eight = record { carried = shortCarried; closes = short; size = 7; closes-all = short-all }
 
--- "line 0 the tool, line 1 service"
+-- R6.1
 pub data Line : Type 0 where
   tool : Line
   service : Line
@@ -120,8 +120,7 @@ module _ (E : Entries) where
   abbrev pub callOn : TwoBoard → BoardCall → TwoBoard × List ℕ
   callOn = call (gauge E) (twoLines idle) (λ l. eight) (λ l. eightCodec)
 
-  -- "With right toggles a read of L > 4 bytes ends after exactly L/7 parts, rounded up, with the other line free to do anything but a device
-  -- reset": on line l message m opens a read, and these calls come after it. l's own messages among them ask for parts with right toggles;
+  -- R6.6: on line l message m opens a read, and these calls come after it. l's own messages among them ask for parts with right toggles;
   -- no device reset is done
   pub record Parts (l : Line) (b : TwoBoard) (m : List ℕ) (cs : List BoardCall) : Type 0 where
     pub right : Right (gauge E) (twoLines idle) (λ l. eight) l (map (meant (gauge E) (twoLines idle) (λ l. eight) (λ l. eightCodec)) cs) false

@@ -1,4 +1,4 @@
--- THE BOARD WITH ITS RECORDS BY VALUE: `speak` is one message of one line, on the store and that line's record; `recordCall` is what the
+-- RULE: THE BOARD WITH ITS RECORDS BY VALUE: `speak` is one message of one line, on the store and that line's record; `recordCall` is what the
 -- board's calls are held to. The struct `Transfer` is the code's own: of a read `held` begins with the value, of a write with the bytes sent.
 use Prim.Native.Nat.{ℕ, _%_}
 use mathlib.Core.Path.{_≡_}
@@ -24,7 +24,7 @@ use Rattle.sdo.specs.declared.Transfer.{Transfer}
 use Rattle.sdo.specs.Eight.{askOf, answerOf}
 use Rattle.sdo.specs.Lines.{Entries, gauge, eight, Line, Both, atLine, setLine, both, twoLines, eightCodec, BoardCall}
 
--- "An ended or dropped transfer leaves its record all zero"
+-- R6.4
 abbrev pub allZero : Transfer
 allZero = record { held = replicate 64 0; row = 0; direction = Neither; len = 0; place = 0; toggle = false }
 
@@ -53,8 +53,7 @@ pub record RowOf (d : Direction) (k : Key) (n : ℕ) : Type 0 where
   pub allowed : allows d (at-row row .access) ≡ true
   pub length-is : n ≡ at-row row .len
 
--- "A transfer record whose row is outside the table or does not allow its direction, whose length is not the row's or whose place is beyond the
--- length counts as none; any other is served as it stands"
+-- does a record count? (R6.5)
 abbrev pub fitting : ℕ → Direction → ℕ → ℕ → Bool
 fitting row d len place = ltb row row-count && (allows d (at-row row .access) && (eqb len (at-row row .len) && leb place len))
 
@@ -72,7 +71,7 @@ unfoldable pub view : Transfer → Pending Key
 unfolding counts pending
 view t = cond (counts t) (pending (t .direction) t) idle
 
--- what a line's next record is laid over: "an opening starts from [all zero]", with the entry's row; a part goes on with the record
+-- what a line's next record is laid over: an opening starts from zeros (R6.4) with the entry's row; a part goes on with the record
 abbrev pub zeroAt : ℕ → Transfer
 zeroAt row = record { held = replicate 64 0; row = row; direction = Neither; len = 0; place = 0; toggle = false }
 
@@ -86,7 +85,7 @@ base t (sendPart u bytes last) = t
 base t giveUp = allZero
 base t unknown = allZero
 
--- the record of a transfer, laid over another; "an ended or dropped transfer leaves its record all zero"
+-- the record of a transfer, laid over another; no transfer is zeros (R6.4)
 unfoldable pub lay : Transfer → Pending Key → Transfer
 lay t idle = allZero
 lay t (reading k bytes place toggle) =
@@ -118,7 +117,7 @@ module _ (E : Entries) where
     pub store : E .Store
     pub records : Both Transfer
 
-  -- "Device reset .. drops both lines' transfers"
+  -- a device reset drops both (R6.1)
   abbrev pub recordsAfter : Both Transfer → Line → Spoken (E .Store) → Both Transfer
   recordsAfter rs l s = cond (s .reset) (both allZero) (setLine rs l (s .next))
 
@@ -137,7 +136,7 @@ module _ (E : Entries) where
   recordEnd b [] = b
   recordEnd b (c ∷ cs) = recordEnd ((recordCall b c) .0) cs
 
-  -- "Power-up: .. both transfer records all zero whatever they held"
+  -- R9.3
   abbrev pub recordStart : E .Store → RecordBoard
   recordStart g = record { store = g; records = both allZero }
 
@@ -165,13 +164,13 @@ module _ (E : Entries) where
     pub same-results : results (gauge E) g (opsOf (gauge E) (recordClient g cs)) ≡ gotOf (gauge E) (recordClient g cs)
     pub same-end : endOf (gauge E) g (opsOf (gauge E) (recordClient g cs)) ≡ (recordEnd (recordStart g) cs) .store
 
-  -- "anything but a device reset": none is done in these calls
+  -- no device reset is done in these calls
   abbrev pub NoReset : RecordBoard → List (BoardCall E) → Type 0
   NoReset b [] = Unit {0}
   NoReset b (heard l m ∷ cs) = ((speak (b .store) (atLine (b .records) l) m) .reset ≡ false) × NoReset ((recordCall b (heard l m)) .0) cs
   NoReset b (fed s ∷ cs) = NoReset ((recordCall b (fed s)) .0) cs
 
-  -- after message m of line l these calls come: l's own messages among them ask for parts "with right toggles", which start at 0
+  -- after message m of line l these calls come: l's own messages among them ask for parts with right toggles, which start at 0 (R6.3)
   pub record RecordParts (l : Line) (b : RecordBoard) (m : List ℕ) (cs : List (BoardCall E)) : Type 0 where
     pub right : Right (gauge E) (twoLines idle) (λ l. eight) l (map (meant (gauge E) (twoLines idle) (λ l. eight) (λ l. eightCodec)) cs) false
     pub calm : NoReset ((recordCall b (heard l m)) .0) cs

@@ -1,4 +1,4 @@
--- WHAT EACH MESSAGE COMES TO, by value: the pieces of `speak` that need no store. A `Reply` has the answer, the line's next record and what
+-- SHAPE: WHAT EACH MESSAGE COMES TO, by value: the pieces of `speak` that need no store. A `Reply` has the answer, the line's next record and what
 -- is still to be done with the store. Openings are given the entry's row: index to access are judged before.
 use Prim.Native.Nat.{ℕ, _+_}
 use mathlib.Core.Bool.{Bool, true, false, not, Bool·beq, _&&_}
@@ -28,7 +28,7 @@ pub record Reply : Type 0 where
   pub next : Transfer
   pub act : Act
 
--- the answer ends the transfer, which "leaves its record all zero"
+-- the answer ends the transfer (R6.4)
 abbrev pub ending : List ℕ → Reply
 ending eight = record { eight = eight; next = allZero; act = Done }
 
@@ -61,7 +61,7 @@ unfoldable pub givenReply : Transfer → Reply
 unfolding pick
 givenReply t = pick (leb (t .len) (t .place + 7)) (ending (partBytes t true)) (going (partBytes t false) (turned t))
 
--- "specifier and matching transfer 05040001; toggle 05030000"
+-- R7.2
 unfoldable pub nextPartReply : Transfer → Bool → Reply
 unfolding givenReply is-reading
 nextPartReply t u =
@@ -88,7 +88,7 @@ grown t bytes =
       toggle = not (t .toggle);
     }
 
--- "parts that overrun give 06070012 at that message, a last part that ends short gives 06070013"
+-- R7.8
 unfoldable pub takenReply : Transfer → List ℕ → Bool → Reply
 unfolding pick
 takenReply t bytes last =
@@ -104,16 +104,16 @@ sendPartReply t u bytes last =
     (pick (Bool·beq (t .toggle) u) (takenReply t bytes last) (ending (answerOf (wrongToggle (keyAt (t .row))))))
     (ending (answerOf noTransfer))
 
--- ---- OPENINGS: "an opening starts from [all zero]"
+-- ---- OPENINGS, from zeros (R6.4)
 
 abbrev pub openedRecord : Direction → ℕ → List ℕ → ℕ → Transfer
 openedRecord d row held len = record { held = held; row = row; direction = d; len = len; place = 0; toggle = false }
 
--- 64 bytes that begin with these, "rest zero"
+-- 64 bytes that begin with these, then zeros
 abbrev pub filled : List ℕ → List ℕ
 filled bytes = splice (replicate 64 0) 0 bytes
 
--- a read of the value that the first len bytes held are: "Up to 4 bytes: .. with the value .. Longer: 41 with the length"
+-- a read of the value that the first len bytes held are (R5.2, R5.3)
 unfoldable pub openReadReply : ℕ → List ℕ → ℕ → Reply
 unfolding pick
 openReadReply row held len =
@@ -130,7 +130,7 @@ unfoldable pub openWriteReply : ℕ → Said → Reply
 unfolding openWriteBy narrowed
 openWriteReply row said = openWriteBy row (narrowed (at-row row .len) (at-row row .len) said)
 
--- a write with the value in its opening: the first len of "bytes 4-7", to be committed
+-- a write with the value in its opening (R5.5): the first len of its four bytes, to be committed
 abbrev pub valueReply : ℕ → ℕ → List ℕ → Reply
 valueReply row len m = committing (answerOf (writeOpened (keyAt row))) (openedRecord Writes row (filled (take len (drop 4 m))) len)
 

@@ -1,4 +1,4 @@
--- The 256 state bytes, as docs/STATE.md lays them out: both transfer records and the trip states. Assumes nothing.
+-- RULE: the 256 state bytes, as docs/STATE.md lays them out (R14.1): both transfer records and the trip states. Assumes nothing.
 use mathlib.Core.Bool.{cond}
 use mathlib.Core.List.{List, _++_}
 use Prim.Native.Nat.{ℕ, _+_, _*_}
@@ -14,7 +14,7 @@ use Rattle.sdo.specs.declared.Direction.the-variants.{Neither, Reads, Writes}
 use Rattle.sdo.specs.declared.Transfer.{Transfer}
 use Rattle.sdo.specs.Records.{allZero}
 
--- "line 0 the tool, line 1 service"
+-- line 0's record, then line 1's
 unfoldable pub record-place : ℕ → ℕ
 record-place line = 96 * line
 
@@ -50,7 +50,7 @@ record-tail t =
 unfoldable pub record-bytes : Transfer → List ℕ
 record-bytes t = t .held ++ record-tail t
 
--- the trip states: point 1 high and low, point 2 high and low; "a trip byte other than 0 being on"
+-- the trip states: point 1 high and low, point 2 high and low (R14.2)
 unfoldable pub trips-at : List ℕ → Trips
 trips-at s =
     record {
@@ -61,6 +61,6 @@ trips-at s =
 unfoldable pub trips-bytes : Trips → List ℕ
 trips-bytes t = flags (t .one .high) (t .one .low) (t .two .high) (t .two .low)
 
--- power-up and device reset: "trips off", "both transfer records all zero whatever they held"
+-- power-up and device reset (R9.3)
 unfoldable pub dropped : List ℕ → List ℕ
 dropped state = splice (splice (splice state 0 (record-bytes allZero)) 96 (record-bytes allZero)) trips-place (trips-bytes all-off)

@@ -1,4 +1,4 @@
--- THE WAY TO A ROW, as reading the whole table from the top gives it: the row, "index absent" or "subindex absent".
+-- RULE: THE WAY TO A ROW, as reading the whole table from the top gives it: the row, no index or no subindex (R1.2, R7.3).
 -- Assumes nothing.
 use mathlib.Core.Bool.{Bool, true, false}
 use mathlib.Core.List.{List, [], _∷_}

@@ -1,4 +1,4 @@
--- The places in the values that have names. tools/table.py writes this file; that they are the table's is computed in
+-- RULE: the places in the values that have names. tools/table.py writes this file; that they are the table's is computed in
 -- proofs/Placed.antt. Assumes nothing.
 use Prim.Native.Nat.{ℕ, _+_}
 use mathlib.Core.List.{List, [], _∷_}

@@ -1,4 +1,4 @@
--- THE OBJECT TABLE: one line for each row, in the order of docs/object-table.md, from which tools/table.py writes this file.
+-- RULE: THE OBJECT TABLE (R1.1): one line for each row, in the order of docs/object-table.md, from which tools/table.py writes this file.
 -- index, subindex, type, access, NV mark, length, place, minimum, maximum, default. Assumes nothing.
 use mathlib.Core.List.{List, [], _∷_}
 use Prim.Native.Nat.{ℕ}

@@ -1,7 +1,4 @@
--- THE TABLE'S RULE, as one test over a whole table: "(index, subindex) strictly rising, length 1 to 64, places inside 1,024
--- bytes and not overlapping (the card and command words have no place), minimum not above maximum, default within limits, the
--- NV entries fitting into the saved block"; "BOOL takes one byte, 0 or 1"; a ULINT takes every number of its 8 bytes; what is no
--- number has no limits. Assumes nothing.
+-- RULE: THE TABLE'S RULE, as one test over a whole table (R1.2 to R1.5, R2.2, R2.3, R2.7). Assumes nothing.
 use mathlib.Core.Bool.{Bool, true, false}
 use mathlib.Core.List.{List, [], _∷_}
 use Prim.Native.Nat.{ℕ, _+_, _*_, _%_, _-_, _^_}
@@ -22,12 +19,12 @@ key r = r .index * 256 + r .sub
 unfoldable pub is-number : Row → Bool
 is-number r = leb (r .kind) REAL
 
--- the bytes that an entry has in the values: "the card and command words have no place"
+-- the bytes that an entry has in the values (R1.3)
 unfoldable pub held : Row → ℕ
 unfolding pick
 held r = pick (leb CARD (r .kind)) 0 (r .len)
 
--- the bits that an entry has in the saved block: "BOOL one bit, numbers at their width, strings byte by byte"
+-- the bits that an entry has in the saved block (R4.2)
 unfoldable pub block-bits : Row → ℕ
 unfolding pick
 block-bits r = pick (eqb (r .nv) 1) (pick (eqb (r .kind) BOOL) 1 (8 * r .len)) 0
@@ -46,7 +43,7 @@ unfoldable pub rank : ℕ → ℕ → ℕ
 unfolding pick
 rank kind v = pick (eqb kind REAL) (real-rank v) v
 
--- "a REAL must be finite": so are its limits
+-- a REAL's limits are finite (R2.3)
 unfoldable pub finite : ℕ → Bool
 finite b = ltb (b % 2147483648) 2139095040
 

@@ -1,4 +1,4 @@
--- Tests over a whole list. Assumes nothing.
+-- RULE: tests over a whole list. Assumes nothing.
 use mathlib.Core.Bool.{Bool, true, false}
 use mathlib.Core.List.{List, [], _∷_}
 

@@ -1,4 +1,4 @@
--- THE MEMORY OVER A WHOLE INPUT: byte by byte as the program goes, and line by line. Both come to the same (proofs/Whole.antt).
+-- RULE: THE MEMORY OVER A WHOLE INPUT: byte by byte as the program goes, and line by line. Both come to the same (proofs/Whole.antt).
 use mathlib.Core.Bool.{Bool, true, false, cond}
 use mathlib.Core.List.{List, [], _∷_}
 use Prim.Native.Nat.{ℕ}

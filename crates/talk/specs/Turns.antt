@@ -1,4 +1,4 @@
--- ONE LINE'S TURN: what is printed, and what the board's memory is then.
+-- RULE: ONE TEXT LINE'S TURN (R17.1): what is printed, and what the board's memory is then.
 use mathlib.Core.Bool.{cond}
 use mathlib.Core.List.{List}
 use Prim.Native.Nat.{ℕ}
@@ -24,13 +24,13 @@ pub record Turn : Type 0 where
 abbrev pub turn : List ℕ → Memory → Turn
 turn text left = record { text = text; left = left }
 
--- "prints line and answer in capital hex, `-` for none": the call's number 5 is no answer
+-- the line and the answer are printed; the call's number 5 is no answer (R13.8)
 unfoldable pub answered : ℕ → Called → Turn
 answered line c =
     turn (cond (eqb (c .number) 5) (none-text line) (answer-text line (c .answer)))
     (memory (c .values) (c .block) (c .state))
 
--- a message is served by the board; "a line that is not 0 or 1, one blank and sixteen hex digits prints `?`", and nothing else happens
+-- a message is served by the board; any other text line prints a question mark, and nothing happens (R17.2)
 unfoldable pub taken : Spoken → Memory → Turn
 taken s m =
     cond (s .message)

@@ -1,4 +1,4 @@
--- The sides of a trip point, one sample on (document 01, "Samples, trips and words").
+-- RULE: the sides of a trip point, one sample on (R10.2 to R10.9).
 use mathlib.Core.Bool.{Bool, true, false, cond, not, _&&_}
 use Prim.Native.Nat.{ℕ}
 use lib.Dec.{eqb}
@@ -8,16 +8,16 @@ use Rattle.trip.specs.declared.Point.{Point}
 use Rattle.trip.specs.declared.On.{On}
 use Rattle.trip.specs.declared.Trips.{Trips}
 
--- "else it stays (off, if lent settings make both hold)"; "a disabled side is off"
+-- R10.7
 unfoldable pub settled : (enabled on off was : Bool) → Bool
 settled enabled on off was = cond enabled (cond off false (cond on true was)) false
 
--- "low goes on when p < level, off when p > level + hysteresis"; the sum is "one REAL operation, rounded once"
+-- R10.5, R10.8
 unfoldable pub low-next : Side → Bool → Float → Bool
 low-next side was p =
     settled (side .enabled) (lt p (side .level)) (lt (add binary32 (side .level) (side .hysteresis)) p) was
 
--- "high goes on when p > level, off when p < level - hysteresis"
+-- R10.6, R10.8
 unfoldable pub high-next : Side → Bool → Float → Bool
 high-next side was p =
     settled (side .enabled) (lt (side .level) p) (lt p (sub binary32 (side .level) (side .hysteresis))) was
@@ -31,7 +31,7 @@ finite nan = false
 finite (inf s) = false
 finite (fin s m e) = true
 
--- "A pressure that is not finite or is negative counts as not valid"; "minus zero is not negative"; the flag "0 is not valid, else valid"
+-- R10.1, R10.2
 unfoldable pub usable-pressure : Float → ℕ → Bool
 usable-pressure p valid = not (eqb valid 0) && (not (lt p (ofBits binary32 0)) && finite p)
 
@@ -42,10 +42,10 @@ abbrev pub pick-on : Bool → On → On → On
 pick-on true a b = a
 pick-on false a b = b
 
--- a sample that is not valid: "both trips are off"
+-- a sample that is not valid turns trips off (R10.3)
 unfoldable pub point-after : Point → On → Float → ℕ → On
 point-after point was p valid = pick-on (usable-pressure p valid) (point-next point was p) off
 
--- "trips off": both points
+-- both points off
 abbrev pub all-off : Trips
 all-off = record { one = record { high = false; low = false }; two = record { high = false; low = false } }

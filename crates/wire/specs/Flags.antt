@@ -1,4 +1,4 @@
--- Flags in bytes: "a lent enable byte other than 0 is 1", "a trip byte other than 0 being on".
+-- RULE: flags in bytes: any byte but 0 is set (R3.6, R14.2).
 use mathlib.Core.Bool.{Bool, cond, not}
 use mathlib.Core.List.{List, _++_}
 use Prim.Native.Nat.{ℕ}

@@ -1,4 +1,4 @@
--- Whole numbers in bytes ("Whole numbers and REAL are little-endian").
+-- RULE: whole numbers in bytes, the lowest first (R2.1).
 use mathlib.Core.List.{List, [], _∷_}
 use Prim.Native.Nat.{ℕ, zero, suc, _+_, _*_, _/_, _%_}
 use lib.ListN.{take, drop}

@@ -1,4 +1,4 @@
--- REAL values in bytes: four bytes are a bit pattern, and every pattern of a NaN is the one `nan`.
+-- RULE: REAL values in bytes (R2.1): four bytes are a bit pattern, and every pattern of a NaN is the one `nan`.
 use mathlib.Core.List.{List}
 use Prim.Native.Nat.{ℕ}
 use lib.Ieee.{Float, binary32, ofBits}

@@ -1,4 +1,4 @@
--- A list with a part replaced. Every write into lent bytes is said with it.
+-- RULE: a list with some of it replaced. Every write into lent bytes is said with it.
 use mathlib.Core.Bool.{Bool, _||_}
 use mathlib.Core.List.{List, _++_}
 use Prim.Native.Nat.{ℕ, _+_}
