@@ -4,7 +4,6 @@ use mathlib.Core.Path.{_≡_}
 use mathlib.Core.Bool.{cond}
 use Prim.Native.Nat.{ℕ}
 use lib.Dec.{eqb}
-use Rattle.order.specs.Talk.{Sizes, sizes, closed}
 use Rattle.table.specs.Row.{RO, WO}
 use Rattle.table.specs.Rows.{at-row}
 use Rattle.find.specs.Columns.{shape}
@@ -48,11 +47,6 @@ smallest r = at-row r .len
 
 unfoldable pub largest : ℕ → ℕ
 largest r = at-row r .len
-
--- the lengths that a write may have
-unfoldable pub sizes-of : Way → Sizes
-sizes-of (to-row r) = sizes (smallest r) (largest r)
-sizes-of (no-way code) = closed code
 
 -- ---- the code's enum, which has more than the way: beside the row stands the row's shape
 
