@@ -17,9 +17,11 @@ use Rattle.table.specs.Rule.{pick}
 use Rattle.table.specs.declared.Found.the-variants.{At}
 use Rattle.table.proofs.Table.{find-at, row-found}
 use Rattle.trip.specs.Trip.{all-off}
-use Rattle.gate.specs.Gates.{Way, to-row, no-way, gate, read-gate, write-gate, read-only, write-only, smallest, largest}
+use Rattle.gate.specs.Codes.{write-only, read-only}
+use Rattle.gate.specs.Gates.{Way, to-row, no-way, gate, read-gate, write-gate}
 use Rattle.gate.proofs.GateLaws.{Opened, opened}
 use Rattle.gauge.specs.Memory.{Memory, Store, memory-of}
+use Rattle.gauge.specs.Checks.{smallest, largest}
 use Rattle.gauge.specs.Whole.{value-of, commit-row, with-trips, write-sizes}
 use Rattle.gauge.proofs.ByGate.{read-through, sizes-of, commit-through, read-by-gate, sizes-by-gate, commit-by-gate}
 use Rattle.gauge.proofs.ValueLaws.{value-length}

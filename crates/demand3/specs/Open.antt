@@ -15,12 +15,11 @@ use Rattle.entry.specs.Entry.{entry-of, stored as entry-stored, default-of, def
 use Rattle.card.specs.Card.{enable, point-fields, point-bits, card-bits, card-of, fields-of, layout-verdict, level-verdict, first-bad, point-verdict, card-verdict, with-point, with-card}
 use Rattle.block.specs.Block.{width, entry-bits, entry-bytes, within, nv-rows, widths, saved, load-rows, values-good, rows-good, all-zero, block-of, headed, good}
 use Rattle.block.specs.Saved.{storable, stored as block-stored, loadable, loaded}
-use Rattle.gate.specs.Gates.{smallest, largest}
 use Rattle.gate.specs.Lock.{guarded, locked}
 use Rattle.command.specs.Words.{command-at, word-of, read-word, status-of, with-status, same-bytes}
 use Rattle.gauge.specs.PowerUp.{fresh-values, powered-up}
 use Rattle.gauge.specs.Commands.{status-by, done, obeyed}
-use Rattle.gauge.specs.Checks.{row-number, code-of, is-no-index, is-no-sub, verdict-of, fails, read-order, key-order, last-order, refused-by, unless-refused}
+use Rattle.gauge.specs.Checks.{row-number, smallest, largest, code-of, is-no-index, is-no-sub, verdict-of, fails, read-order, key-order, last-order, refused-by, unless-refused}
 use Rattle.gauge.specs.Whole.{by-type, value-of, read-checked, read-whole, sizes-checked, write-sizes, effect, write-by, with-trips, commit-whole}
 use Rattle.order.specs.Gauge.{narrowed, narrow, counted, judged, judgedBy, writeWhole, readResult, writeResult, written, result, after, results}
 use Rattle.order.specs.Observe.{gainedBy, gain, ended, refusedBy, if-yes, noted, note, onward, readDone, partDone, finished, placed, remember, followOne, follow, observeOne, observe}

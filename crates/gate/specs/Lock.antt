@@ -11,8 +11,5 @@ use Rattle.table.specs.Places.{lock}
 unfoldable pub guarded : Row → Bool
 guarded r = eqb (r .nv) 1 || (eqb (r .kind) CARD || (eqb (r .kind) COMMAND && eqb (r .index) 0xFBF4))
 
-abbrev pub lock-shut : ℕ
-lock-shut = 0x08000022
-
 unfoldable pub locked : Row → List ℕ → Bool
 locked r values = guarded r && eqb (number values lock 1) 1

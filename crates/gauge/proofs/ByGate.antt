@@ -13,9 +13,9 @@ use Rattle.table.specs.Rows.{at-row}
 use Rattle.table.specs.Find.{find-row}
 use Rattle.table.specs.declared.Found.{Found}
 use Rattle.table.specs.declared.Found.the-variants.{At, NoIndex, NoSub}
-use Rattle.gate.specs.Gates.{Way, to-row, no-way, gate, read-gate, write-gate, smallest, largest}
+use Rattle.gate.specs.Gates.{Way, to-row, no-way, gate, read-gate, write-gate}
 use Rattle.gauge.specs.Memory.{Store}
-use Rattle.gauge.specs.Checks.{asked, asked-key, row-number, Test, no-such-index, no-such-subindex, only-written, only-read, code-of, is-no-index, is-no-sub, fails, read-order, key-order, last-order, refused-by, unless-refused}
+use Rattle.gauge.specs.Checks.{asked, asked-key, row-number, smallest, largest, Test, no-such-index, no-such-subindex, only-written, only-read, code-of, is-no-index, is-no-sub, fails, read-order, key-order, last-order, refused-by, unless-refused}
 use Rattle.gauge.specs.Whole.{value-of, read-checked, read-whole, sizes-checked, write-sizes, effect, write-by, commit-row, with-trips, commit-whole}
 use Rattle.gauge.proofs.InOrder.{parted}
 

@@ -12,10 +12,9 @@ use Rattle.order.specs.Talk.{Said, announced, unsaid, own, Sizes, sizes, closed
 use Rattle.order.specs.Gauge.{Gauge, tooLong, tooShort, narrowed, narrow, counted, judged, judgedBy, writeWhole}
 use Rattle.table.specs.Find.{find-row}
 use Rattle.table.specs.declared.Found.{Found}
-use Rattle.gate.specs.Gates.{smallest, largest}
 use Rattle.entry.specs.Limits.{verdict-code}
 use Rattle.gauge.specs.Memory.{Memory, Store}
-use Rattle.gauge.specs.Checks.{Asked, asked, asked-key, number-asked, row-asked, sent, least, most, Test, no-such-index, no-such-subindex, only-written, only-read, announced-long, announced-short, sent-long, sent-short, under-lock, no-number, too-high, too-low, code-of, says-above, says-below, fails, key-order, length-order, last-order, write-order, refused-by, unless-refused, told}
+use Rattle.gauge.specs.Checks.{Asked, asked, asked-key, number-asked, row-asked, smallest, largest, sent, least, most, Test, no-such-index, no-such-subindex, only-written, only-read, announced-long, announced-short, sent-long, sent-short, under-lock, no-number, too-high, too-low, code-of, says-above, says-below, fails, key-order, length-order, last-order, write-order, refused-by, unless-refused, told}
 use Rattle.gauge.specs.Whole.{read-whole, sizes-checked, write-sizes, effect, write-by, with-trips, commit-whole, write-checked}
 
 -- ---- the first that fails

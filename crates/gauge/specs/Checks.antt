@@ -12,8 +12,8 @@ use Rattle.table.specs.Row.{Row, RO, WO, CARD}
 use Rattle.table.specs.Rows.{row-count, at-row}
 use Rattle.table.specs.declared.Found.{Found}
 use Rattle.table.specs.declared.Found.the-variants.{At, NoIndex, NoSub}
-use Rattle.gate.specs.Gates.{index-absent, subindex-absent, write-only, read-only, smallest, largest}
-use Rattle.gate.specs.Lock.{lock-shut, locked}
+use Rattle.gate.specs.Codes.{index-absent, subindex-absent, write-only, read-only, lock-shut}
+use Rattle.gate.specs.Lock.{locked}
 use Rattle.entry.specs.Limits.{verdict-code}
 use Rattle.entry.specs.Entry.{row-verdict}
 use Rattle.entry.specs.declared.limits.Verdict.{Verdict}
@@ -51,6 +51,13 @@ number-asked a = row-number (a .found)
 
 abbrev pub row-asked : Asked → Row
 row-asked a = at-row (number-asked a)
+
+-- the smallest and the largest length of a row's entry: in the base they are one
+unfoldable pub smallest : ℕ → ℕ
+smallest r = at-row r .len
+
+unfoldable pub largest : ℕ → ℕ
+largest r = at-row r .len
 
 -- the bytes that count
 abbrev pub sent : Asked → List ℕ

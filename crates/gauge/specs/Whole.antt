@@ -10,11 +10,10 @@ use Rattle.entry.specs.Entry.{entry-of}
 use Rattle.entry.specs.Entry as entry
 use Rattle.card.specs.Card.{card-of, with-card}
 use Rattle.trip.specs.Trip.{all-off}
-use Rattle.gate.specs.Gates.{smallest, largest}
 use Rattle.command.specs.Words.{command-at, read-word}
 use Rattle.gauge.specs.Memory.{Memory, Store, with-values}
 use Rattle.gauge.specs.Commands.{obeyed}
-use Rattle.gauge.specs.Checks.{Asked, asked, asked-key, asked-last, number-asked, row-asked, sent, Test, read-order, key-order, last-order, write-order, refused-by, unless-refused}
+use Rattle.gauge.specs.Checks.{Asked, asked, asked-key, asked-last, number-asked, row-asked, smallest, largest, sent, Test, read-order, key-order, last-order, write-order, refused-by, unless-refused}
 
 -- by type: the card is a view, a command word has its printed value, all else is stored
 unfoldable pub by-type : {A : Type 0} → Row → A → A → A → A
