@@ -8,7 +8,7 @@ use native.Mathlib.Nat.{not-suc-le-zero, le-of-suc-le-suc}
 use native.Mathlib.Omega.{arith}
 use lib.Dec.{leb, eqb}
 use lib.ListN.{length, take, drop, getD, replicate, length-append, length-drop, take-append-drop}
-use lib.Seq.{take-at, drop-at, drop-drop, take-add, length-take-le}
+use lib.Seq.{drop-at, drop-drop, take-add, length-take-le}
 use borrow.Author.Tests.{le-leb, eqb-true, eq-eqb}
 use Rattle.bits.proofs.Numbers.{length-msb, num-msb, msb-num, small-take, small-drop}
 use Rattle.bits.proofs.Parts.{field-mid}
@@ -182,35 +182,6 @@ module _ (others : List ℕ) (hb : Bytes others) (hn : length others ≡ 1024) w
         ap (drop (8 + widths rs)) (block-parts model others rs ∙ sym (append-assoc (head model) s z))
         ∙ drop-at (head model ++ s) z (8 + widths rs) (omega (arith, length-append (head model) s, length-head model, length-saved others rs k hn)) in
         rw (lay, mdl, row, d, eq-eqb model model refl) (zeros (4096 - (8 + widths rs)))
-
--- ---- each entry at its bit place
-
-row-saved : (values : List ℕ) (hn : length values ≡ 1024) (rs : List Row) → Keeps rs → (front rest : List ℕ) (j : ℕ) → j < length rs
-    → take (row-width (getD rs j no-row)) (drop (length front + widths (take j rs)) (front ++ (saved values rs ++ rest)))
-    ≡ entry-bits (getD rs j no-row .kind) (getD rs j no-row .len) (part values (getD rs j no-row))
-unfolding saved widths Keeps
-row-saved values hn [] k front rest j h = absurd (not-suc-le-zero h)
-row-saved values hn (r ∷ rs) k front rest zero h =
-    let own : List ℕ = entry-bits (r .kind) (r .len) (part values r) in
-    let lo : length own ≡ row-width r = length-entry (r .kind) (r .len) (part values r) (part-long values r (k .0) hn) in
-    ap (take (row-width r)) (drop-at front ((own ++ saved values rs) ++ rest) (length front + 0) (omega arith) ∙ append-assoc own (saved values rs) rest)
-    ∙ take-at own (saved values rs ++ rest) (row-width r) lo
-row-saved values hn (r ∷ rs) k front rest (suc j) h =
-    let own : List ℕ = entry-bits (r .kind) (r .len) (part values r) in
-    let lo : length own ≡ row-width r = length-entry (r .kind) (r .len) (part values r) (part-long values r (k .0) hn) in
-    let f : front ++ ((own ++ saved values rs) ++ rest) ≡ (front ++ own) ++ (saved values rs ++ rest) =
-    ap (λ (l : List ℕ). front ++ l) (append-assoc own (saved values rs) rest) ∙ sym (append-assoc front own (saved values rs ++ rest)) in
-    let n : length front + (row-width r + widths (take j rs)) ≡ length (front ++ own) + widths (take j rs) = omega (arith, length-append front own) in
-    rw (f, n) (row-saved values hn rs (k .1) (front ++ own) rest j (le-of-suc-le-suc h))
-
--- the j-th NV entry begins after the 8 bits of layout and model and the entries before it
-pub entry-place : (model : ℕ) (values : List ℕ) (rs : List Row) → Keeps rs → length values ≡ 1024 → (j : ℕ) → j < length rs
-    → take (row-width (getD rs j no-row)) (drop (8 + widths (take j rs)) (block-of model values rs))
-    ≡ entry-bits (getD rs j no-row .kind) (getD rs j no-row .len) (part values (getD rs j no-row))
-entry-place model values rs k n j h =
-    ap (λ (b : List ℕ). take (row-width (getD rs j no-row)) (drop (8 + widths (take j rs)) b)) (block-parts model values rs)
-    ∙ ap (λ (m : ℕ). take (row-width (getD rs j no-row)) (drop (m + widths (take j rs)) (head model ++ (saved values rs ++ replicate (4096 - (8 + widths rs)) 0)))) (sym (length-head model))
-    ∙ row-saved values n rs k (head model) (replicate (4096 - (8 + widths rs)) 0) j h
 
 -- ---- stored after loaded: the same bits
 

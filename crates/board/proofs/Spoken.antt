@@ -17,10 +17,13 @@ use Rattle.table.specs.Rule.{pick}
 use Rattle.table.specs.declared.Found.the-variants.{At}
 use Rattle.table.proofs.Table.{find-at, row-found}
 use Rattle.trip.specs.Trip.{all-off}
-use Rattle.gate.specs.Gates.{Way, to-row, no-way, gate, read-gate, write-gate, read-only, write-only, sizes-of, smallest, largest}
+use Rattle.gate.specs.Codes.{write-only, read-only}
+use Rattle.gate.specs.Gates.{Way, to-row, no-way, gate, read-gate, write-gate}
 use Rattle.gate.proofs.GateLaws.{Opened, opened}
 use Rattle.gauge.specs.Memory.{Memory, Store, memory-of}
-use Rattle.gauge.specs.Whole.{value-of, read-through, read-whole, commit-row, with-trips, commit-through, commit-whole, write-sizes}
+use Rattle.gauge.specs.Checks.{smallest, largest}
+use Rattle.gauge.specs.Whole.{value-of, commit-row, with-trips, write-sizes}
+use Rattle.gauge.proofs.ByGate.{read-through, sizes-of, commit-through, read-by-gate, sizes-by-gate, commit-by-gate}
 use Rattle.gauge.proofs.ValueLaws.{value-length}
 use Rattle.sdo.specs.declared.Key.{Key}
 use Rattle.sdo.specs.declared.Direction.{Direction}
@@ -174,11 +177,12 @@ module _ (g : Store) where
   concluded-agree row eight (declined c) = refl
 
   act-agree : (r : Reply) (a : Act) → Writable a → actedBy bag552 g r a ≡ spoken-by g (act-by (g .memory) r a)
-  unfolding actedBy act-by spoken-by commit-whole commit-through
+  unfolding actedBy act-by spoken-by commit-through
   act-agree r Done w = refl
   act-agree r (Commit row len) w =
-      ap (λ (w : Way). concluded bag552 g (keyAt row) (r .eight) (commit-through w g (take len (r .next .held)))) (open-gate row (w .0) (w .1))
-      ∙ concluded-agree row (r .eight) (commit-row (at-row row) (take len (r .next .held)) (g .memory))
+      ap (concluded bag552 g (keyAt row) (r .eight)) (commit-by-gate (at-row row .index) (at-row row .sub) g (take len (r .next .held)))
+      ∙ ap (λ (w : Way). concluded bag552 g (keyAt row) (r .eight) (commit-through w g (take len (r .next .held)))) (open-gate row (w .0) (w .1))
+      ∙ concluded-agree row (r .eight) (commit-row row (take len (r .next .held)) (g .memory))
 
   -- ---- by what the message says
 
@@ -197,12 +201,12 @@ module _ (g : Store) where
         go (no-way c) e = shut c e
 
     closed-by : (k : Key) (c : ℕ) → write-gate (find-row (k .index) (k .sub)) ≡ no-way c → write-sizes (k .index) (k .sub) ≡ closed c
-    unfolding write-sizes sizes-of
-    closed-by k c e = ap sizes-of e
+    unfolding sizes-of
+    closed-by k c e = sizes-by-gate (k .index) (k .sub) ∙ ap sizes-of e
 
     sized-by : (k : Key) (row : ℕ) → write-gate (find-row (k .index) (k .sub)) ≡ to-row row → write-sizes (k .index) (k .sub) ≡ sizes (at-row row .len) (at-row row .len)
-    unfolding write-sizes sizes-of smallest largest
-    sized-by k row e = ap sizes-of e
+    unfolding sizes-of smallest largest
+    sized-by k row e = sizes-by-gate (k .index) (k .sub) ∙ ap sizes-of e
 
     whole-write : (k : Key) (said : Said) (bytes : List ℕ) (f : ℕ → Reply) → ((row : ℕ) → f row ≡ expeditedReply row said bytes) → askOf m ≡ expedited k said bytes
         → Agrees (through (write-gate (find-row (k .index) (k .sub))) k f)
@@ -217,14 +221,14 @@ module _ (g : Store) where
         (λ row e found. subst Agrees (sym (is row)) (speak-open-write bag552 g t m k row found n ask (sized-by k row e)))
 
     whole-read : (k : Key) → askOf m ≡ openRead k → Agrees (through (read-gate (find-row (k .index) (k .sub))) k (open-read (g .memory .values)))
-    unfolding read-whole read-through open-read
+    unfolding read-through open-read
     whole-read k ask =
         by-gate WO write-only k (open-read (g .memory .values))
-        (λ c e. speak-read-denied bag552 g t m k c ask (ap (λ (w : Way). read-through w (g .memory .values)) e))
+        (λ c e. speak-read-denied bag552 g t m k c ask (read-by-gate (k .index) (k .sub) g ∙ ap (λ (w : Way). read-through w (g .memory .values)) e))
         (λ row e found.
         let n = value-length row (find-at (k .index) (k .sub) row found .there) (g .memory .values) sized in
         subst (λ (l : ℕ). Agrees (openReadReply row (filled (value-of (at-row row) (g .memory .values))) l)) n
-        (speak-open-read bag552 g t m k row found (value-of (at-row row) (g .memory .values)) ask (ap (λ (w : Way). read-through w (g .memory .values)) e)))
+        (speak-open-read bag552 g t m k row found (value-of (at-row row) (g .memory .values)) ask (read-by-gate (k .index) (k .sub) g ∙ ap (λ (w : Way). read-through w (g .memory .values)) e)))
 
     agrees : (said : Message) → messageOf m ≡ said → (said ≡ GiveUp → ⊥) → Agrees (reply-to said m (g .memory .values) t)
     unfolding asked reply-to open-write

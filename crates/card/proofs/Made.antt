@@ -1,13 +1,13 @@
 -- The card that is made: 17 bytes and 16 are the 33 bytes of the card. Assumes nothing.
-use mathlib.Core.Path.{_≡_, refl, sym, ap, ap₂, _∙_}
+use mathlib.Core.Path.{_≡_, sym, ap, ap₂, _∙_}
 use mathlib.Core.List.{List, [], _∷_, _++_, append-assoc, append-nil}
 use Prim.Native.Nat.{ℕ, zero, suc, _+_, _*_, _≤_, _<_}
 use native.Mathlib.Nat.{suc-add, zero-add}
 use native.Mathlib.Omega.{arith}
-use lib.ListN.{length, take, drop, replicate, getD, length-append, length-drop}
+use lib.ListN.{length, take, drop, getD, length-append, length-drop}
 use lib.Seq.{take-append-le, drop-append-le, getD-drop}
 use Rattle.wire.specs.Splice.{splice}
-use Rattle.wire.proofs.SpliceLaws.{splice-behind, part-same}
+use Rattle.wire.proofs.SpliceLaws.{splice-behind}
 use Rattle.wire.proofs.LittleLaws.{Bytes}
 use Rattle.bits.specs.Bits.{msb, bits, num, packed}
 use Rattle.bits.specs.Fields.{encode}
@@ -27,10 +27,6 @@ length-card-bits values h =
 pub length-card : (values : List ℕ) → length (card-of values) ≡ 33
 unfolding card-of
 length-card values = length-packed 33 (card-bits values)
-
--- the card, out of the 64 bytes that hold it
-pub card-held : (values : List ℕ) → take 33 (splice (replicate 64 0) 0 (card-of values)) ≡ card-of values
-card-held values = part-same (replicate 64 0) 0 (card-of values) refl 33 (length-card values)
 
 -- ---- bits as bytes, in two parts
 

@@ -1,17 +1,15 @@
 -- What the card of the values shows: its layout is 1, its fields are the entries' own, its verdict is theirs. Assumes nothing.
 use mathlib.Core.Path.{_≡_, refl, sym, ap, _∙_}
 use mathlib.Core.List.{List, [], _∷_, _++_, append-assoc, append-nil}
-use Prim.Native.Nat.{ℕ, zero, suc}
-use native.Mathlib.Nat.{lt-of-lt-of-le}
-use lib.Pow.{pow-mono}
+use Prim.Native.Nat.{ℕ}
 use native.Mathlib.Omega.{arith}
 use lib.Dec.{lit<}
-use lib.ListN.{length, take, drop, length-append, length-take}
+use lib.ListN.{length, drop, length-append}
 use lib.Seq.{drop-at, take-all}
 use Rattle.wire.proofs.LittleLaws.{Bytes}
-use Rattle.bits.specs.Bits.{msb, bits, field, packed, Small}
+use Rattle.bits.specs.Bits.{msb, bits, field, Small}
 use Rattle.bits.specs.Fields.{encode, decode}
-use Rattle.bits.proofs.Numbers.{length-msb, num-msb, num-lt, small-append, small-msb, small-take, small-drop, bits-packed}
+use Rattle.bits.proofs.Numbers.{length-msb, num-msb, small-append, small-msb, bits-packed}
 use Rattle.bits.proofs.Parts.{field-mid}
 use Rattle.bits.proofs.Packing.{decode-encode}
 use Rattle.table.specs.Places.{settings-1, settings-2}
@@ -24,12 +22,6 @@ unfolding encode Small
 small-encode [] vs = tt
 small-encode (w ∷ ws) [] = tt
 small-encode (w ∷ ws) (v ∷ vs) = small-append (msb w v) (encode ws vs) (small-msb w v) (small-encode ws vs)
-
-bytes-packed : (n : ℕ) (bs : List ℕ) → Small bs → Bytes (packed n bs)
-unfolding packed
-bytes-packed zero bs h k = omega arith
-bytes-packed (suc n) bs h zero = lt-of-lt-of-le (num-lt (take 8 bs) (small-take 8 bs h)) (pow-mono {j = 8} (omega (arith, length-take 8 bs)))
-bytes-packed (suc n) bs h (suc k) = bytes-packed n (drop 8 bs) (small-drop 8 bs h) k
 
 module _ (values : List ℕ) (bytes : Bytes values) where
   -- the three parts of the card
@@ -44,10 +36,6 @@ module _ (values : List ℕ) (bytes : Bytes values) where
   small-card =
       small-append (msb 4 layout) (first-point ++ second-point) (small-msb 4 layout)
       (small-append first-point second-point (small-encode widths (point-fields values settings-1)) (small-encode widths (point-fields values settings-2)))
-
-  pub bytes-of-card : Bytes (card-of values)
-  unfolding card-of
-  bytes-of-card = bytes-packed 33 (card-bits values) small-card
 
   -- the card's bytes say the card's bits
   pub bits-of-card : bits (card-of values) ≡ card-bits values

@@ -1,14 +1,15 @@
 -- THE BOARD'S GAUGE MEETS WHAT DEMAND 3 ASKS: its codes, its lengths, its rows; and so demand 3 for the board with its records by value.
 use Prim.Native.Nat.{ℕ, _%_, _≤_, _<_}
 use native.Mathlib.Omega.{arith}
-use mathlib.Core.Path.{_≡_, refl, subst}
-use mathlib.Core.Logic.{_⊎_, inl, inr}
+use mathlib.Core.Path.{_≡_, refl, subst, sym, _∙_}
 use mathlib.Core.Bool.{Bool, true, false, cond}
 use mathlib.Core.List.{List}
+use mathlib.Core.Option.{Option, none, some}
 use lib.Dec.{eqb}
 use lib.ListN.{length, length-take}
 use borrow.Author.Tests.{eqb-false, eq-eqb, ne-eqb, le-leb}
 use Rattle.order.specs.Talk.{Read, value, denied, Sizes, sizes, closed, Outcome, stored, restarted, declined}
+use Rattle.order.specs.Gauge.{counted}
 use Rattle.table.specs.Row.{Row, RO, WO, CARD, COMMAND}
 use Rattle.table.specs.Rows.{row-count, at-row}
 use Rattle.table.specs.Rule.{held}
@@ -16,17 +17,20 @@ use Rattle.table.specs.Find.{find-row}
 use Rattle.table.specs.declared.Found.{Found}
 use Rattle.table.specs.declared.Found.the-variants.{At, NoIndex, NoSub}
 use Rattle.table.proofs.Table.{row-rule, find-at}
+use Rattle.entry.specs.Limits.{verdict-code}
 use Rattle.entry.specs.Entry.{entry-of}
 use Rattle.entry.proofs.RowLaws.{held-most}
 use Rattle.card.proofs.Made.{length-card}
-use Rattle.gate.specs.Gates.{Way, to-row, no-way, gate, read-gate, write-gate, write-only, read-only, smallest, largest, sizes-of}
-use Rattle.gate.specs.Lock.{locked}
+use Rattle.gate.specs.Codes.{write-only, read-only}
+use Rattle.gate.specs.Gates.{Way, to-row, no-way, gate, read-gate, write-gate}
 use Rattle.command.specs.Words.{command-at, read-word, word-of, same-bytes}
 use Rattle.command.specs.declared.word.Command.{Command}
 use Rattle.command.specs.declared.word.Command.the-variants.{DeviceReset, ExceptionReset, StoreParameters, LoadParameters}
 use Rattle.gauge.specs.Memory.{Memory, Store}
 use Rattle.gauge.specs.Commands.{done, obeyed}
-use Rattle.gauge.specs.Whole.{by-type, value-of, read-through, read-whole, is-code, first-code, last-checks, effect, accepted, commit-row, with-trips, commit-through, commit-whole, write-sizes}
+use Rattle.gauge.specs.Checks.{asked-last, row-number, smallest, largest, Test, no-such-index, no-such-subindex, only-written, only-read, announced-long, announced-short, sent-long, sent-short, under-lock, no-number, too-high, too-low, code-of, last-order, refused-by, unless-refused}
+use Rattle.gauge.specs.Whole.{by-type, value-of, effect, write-by, commit-row, with-trips, commit-whole}
+use Rattle.gauge.proofs.ByGate.{read-through, sizes-of, commit-through, read-by-gate, sizes-by-gate, commit-by-gate}
 use Rattle.gauge.proofs.ValueLaws.{value-length}
 use Rattle.sdo.specs.declared.Key.{Key}
 use Rattle.sdo.specs.declared.Direction.the-variants.{Reads, Writes}
@@ -111,23 +115,26 @@ effect-ok r bytes m =
     ok-cond (eqb (r .kind) CARD) _ _ tt
     (ok-cond (eqb (r .kind) COMMAND) _ _ (ok-cond (same-bytes bytes (word-of (command-at (r .index)))) _ _ (done-ok (command-at (r .index)) m) tt) tt)
 
--- the first code, if there is one
-first-ok : (r : Row) (values bytes : List ℕ) → (first-code (last-checks r values bytes) ≡ 0) ⊎ Code (first-code (last-checks r values bytes))
-unfolding first-code last-checks
-first-ok r values bytes = go (locked r values) (is-code 0x06090030 r bytes) (is-code 0x06090031 r bytes) (is-code 0x06090032 r bytes)
-  where
-    go : (a b c d : Bool) → (_≡_ {A = ℕ} (cond a 0x08000022 (cond b 0x06090030 (cond c 0x06090031 (cond d 0x06090032 0)))) 0)
-        ⊎ Code (cond a 0x08000022 (cond b 0x06090030 (cond c 0x06090031 (cond d 0x06090032 0))))
-    go true b c d = inr (code 0x08000022 (omega arith) (omega arith))
-    go false true c d = inr (code 0x06090030 (omega arith) (omega arith))
-    go false false true d = inr (code 0x06090031 (omega arith) (omega arith))
-    go false false false true = inr (code 0x06090032 (omega arith) (omega arith))
-    go false false false false = inl refl
+-- every test's code
+test-code : (t : Test) → Code (code-of t)
+unfolding code-of verdict-code
+test-code no-such-index = code 0x06020000 (omega arith) (omega arith)
+test-code no-such-subindex = code 0x06090011 (omega arith) (omega arith)
+test-code only-written = code 0x06010001 (omega arith) (omega arith)
+test-code only-read = code 0x06010002 (omega arith) (omega arith)
+test-code announced-long = code 0x06070012 (omega arith) (omega arith)
+test-code announced-short = code 0x06070013 (omega arith) (omega arith)
+test-code sent-long = code 0x06070012 (omega arith) (omega arith)
+test-code sent-short = code 0x06070013 (omega arith) (omega arith)
+test-code under-lock = code 0x08000022 (omega arith) (omega arith)
+test-code no-number = code 0x06090030 (omega arith) (omega arith)
+test-code too-high = code 0x06090031 (omega arith) (omega arith)
+test-code too-low = code 0x06090032 (omega arith) (omega arith)
 
-accepted-ok : (n : ℕ) (o : Outcome Memory) → (n ≡ 0) ⊎ Code n → Coded o → Coded (accepted n o)
-unfolding Coded accepted
-accepted-ok n o (inl e) h = rw e h
-accepted-ok n o (inr c) h = ok-cond (eqb n 0) o (declined n) h c
+unless-ok : (o : Option Test) (x : Outcome Memory) → Coded x → Coded (unless-refused o declined x)
+unfolding Coded unless-refused
+unless-ok none x h = h
+unless-ok (some t) x h = test-code t
 
 trips-ok : (g : Store) (o : Outcome Memory) → Coded o → Coded (with-trips g o)
 unfolding Coded with-trips
@@ -136,10 +143,10 @@ trips-ok g (restarted m) h = tt
 trips-ok g (declined c) h = h
 
 commit-ok : (w : Way) (g : Store) (bytes : List ℕ) → WayOk w → Coded (commit-through w g bytes)
-unfolding WayOk Coded commit-through commit-row
+unfolding WayOk Coded commit-through commit-row write-by counted row-number
 commit-ok (to-row r) g bytes h =
-    trips-ok g (commit-row (at-row r) bytes (g .memory))
-    (accepted-ok (first-code (last-checks (at-row r) (g .memory .values) bytes)) (effect (at-row r) bytes (g .memory)) (first-ok (at-row r) (g .memory .values) bytes) (effect-ok (at-row r) bytes (g .memory)))
+    trips-ok g (commit-row r bytes (g .memory))
+    (unless-ok (refused-by (asked-last r bytes (g .memory .values)) last-order) (effect (at-row r) bytes (g .memory)) (effect-ok (at-row r) bytes (g .memory)))
 commit-ok (no-way c) g bytes h = h
 
 read-gate-ok : (k : Key) → WayOk (read-gate (find-row (k .index) (k .sub)))
@@ -149,13 +156,13 @@ write-gate-ok : (k : Key) → WayOk (write-gate (find-row (k .index) (k .sub)))
 write-gate-ok k = gate-ok RO read-only (k .index) (k .sub) (find-row (k .index) (k .sub)) (code read-only (omega arith) (omega arith)) refl
 
 pub sound : Sound bag552
-unfolding ReadOk CodedSizes Coded read-whole write-sizes commit-whole
+unfolding ReadOk CodedSizes Coded
 sound =
     record {
-      value-fits = λ g k bytes e. subst ReadOk e (read-ok (read-gate (find-row (k .index) (k .sub))) (g .memory .values) (read-gate-ok k));
-      read-code = λ g k c e. subst ReadOk e (read-ok (read-gate (find-row (k .index) (k .sub))) (g .memory .values) (read-gate-ok k));
-      row-code = λ k c e. subst CodedSizes e (sizes-ok (write-gate (find-row (k .index) (k .sub))) (write-gate-ok k));
-      commit-code = λ g k bytes c e. subst Coded e (commit-ok (write-gate (find-row (k .index) (k .sub))) g bytes (write-gate-ok k));
+      value-fits = λ g k bytes e. subst ReadOk (sym (read-by-gate (k .index) (k .sub) g) ∙ e) (read-ok (read-gate (find-row (k .index) (k .sub))) (g .memory .values) (read-gate-ok k));
+      read-code = λ g k c e. subst ReadOk (sym (read-by-gate (k .index) (k .sub) g) ∙ e) (read-ok (read-gate (find-row (k .index) (k .sub))) (g .memory .values) (read-gate-ok k));
+      row-code = λ k c e. subst CodedSizes (sym (sizes-by-gate (k .index) (k .sub)) ∙ e) (sizes-ok (write-gate (find-row (k .index) (k .sub))) (write-gate-ok k));
+      commit-code = λ g k bytes c e. subst Coded (sym (commit-by-gate (k .index) (k .sub) g bytes) ∙ e) (commit-ok (write-gate (find-row (k .index) (k .sub))) g bytes (write-gate-ok k));
     }
 
 -- ---- rows
@@ -234,22 +241,22 @@ trips-good g (restarted m) h = h
 trips-good g (declined c) h = tt
 
 commit-good : (g : Store) (k : Key) (bytes : List ℕ) → GoodStore g → RowOf Writes k (length bytes) → GoodAfter bag552 GoodStore (commit-whole g (k .index) (k .sub) bytes)
-unfolding commit-whole commit-through gate
-commit-good g k bytes ok w = rw (w .found) (go (eqb (at-row (w .row) .access) RO))
+unfolding commit-through gate
+commit-good g k bytes ok w = rw (commit-by-gate (k .index) (k .sub) g bytes, w .found) (go (eqb (at-row (w .row) .access) RO))
   where
     go : (b : Bool) → GoodAfter bag552 GoodStore (commit-through (cond b (no-way read-only) (to-row (w .row))) g bytes)
     go true = tt
     go false =
-        trips-good g (commit-row (at-row (w .row)) bytes (g .memory))
+        trips-good g (commit-row (w .row) bytes (g .memory))
         (commit-sized (w .row) (find-at (k .index) (k .sub) (w .row) (w .found) .there) bytes (w .length-is) (g .memory) ok)
 
 pub real-rows : Rows bag552
-unfolding read-whole write-sizes ReadRow WriteRow sampled
+unfolding ReadRow WriteRow sampled
 real-rows =
     record {
       Good = GoodStore;
-      read-row = λ g k bytes ok e. subst (ReadRow k) e (read-row k (find-row (k .index) (k .sub)) (g .memory .values) (ok .values-are) refl);
-      write-row = λ k low high e. subst (WriteRow k) e (write-row k (find-row (k .index) (k .sub)) refl);
+      read-row = λ g k bytes ok e. subst (ReadRow k) (sym (read-by-gate (k .index) (k .sub) g) ∙ e) (read-row k (find-row (k .index) (k .sub)) (g .memory .values) (ok .values-are) refl);
+      write-row = λ k low high e. subst (WriteRow k) (sym (sizes-by-gate (k .index) (k .sub)) ∙ e) (write-row k (find-row (k .index) (k .sub)) refl);
       commit-good = commit-good;
       sample-good = λ g s ok.
           record {

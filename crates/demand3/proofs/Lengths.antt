@@ -1,25 +1,27 @@
 -- LENGTHS STAY: the values have 1,024 bytes and the block 512 after every whole write of a row's length, every sample and every power-up.
-use Prim.Native.Nat.{ℕ, _+_, _≤_, _<_}
+use Prim.Native.Nat.{ℕ, _+_, _<_}
 use native.Mathlib.Omega.{arith}
 use mathlib.Core.Path.{_≡_, refl, sym, _∙_}
 use mathlib.Core.Bool.{Bool, true, false, cond}
 use mathlib.Core.List.{List}
+use mathlib.Core.Option.{Option, none, some}
 use lib.Dec.{leb, eqb}
 use lib.Ieee.{Float}
 use lib.ListN.{length, replicate}
-use borrow.Author.Tests.{le-leb, eqb-false}
+use borrow.Author.Tests.{eqb-false}
 use Rattle.wire.specs.Little.{put-number}
 use Rattle.wire.proofs.SpliceLaws.{length-splice}
 use Rattle.wire.proofs.LittleLaws.{put-length}
 use Rattle.order.specs.Talk.{Outcome, stored, restarted, declined}
+use Rattle.order.specs.Gauge.{counted}
 use Rattle.table.specs.Row.{Row, CARD, COMMAND}
 use Rattle.table.specs.Rows.{rows, row-count, at-row}
-use Rattle.table.specs.Places.{input-value, trip-input-1, trip-input-2, reading-valid, status-1, status-2, trip-outputs, sensor-error, active-word, latched-status, latched-word, summary-byte, power-on-time, settings-1, settings-2, high-enable, low-enable, high-level, low-level, high-hysteresis, low-hysteresis}
+use Rattle.table.specs.Places.{input-value, trip-input-1, trip-input-2, reading-valid, status-1, status-2, trip-outputs, sensor-error, active-word, latched-status, latched-word, summary-byte, power-on-time}
 use Rattle.table.proofs.Table.{rows-length, row-rule}
 use Rattle.entry.proofs.EntryLaws.{length-stored, length-defaults}
 use Rattle.trip.specs.Trip.{usable-pressure}
 use Rattle.trip.specs.declared.Trips.{Trips}
-use Rattle.card.specs.Card.{point-1, point-2, fields-of, with-point, with-card}
+use Rattle.card.proofs.Stored.{with-card-length}
 use Rattle.block.proofs.Theorems as saved
 use Rattle.sample.specs.Faults.{with-faults, with-summary}
 use Rattle.sample.specs.Sample.{trips-after, with-reading, with-trips, values-after}
@@ -30,7 +32,8 @@ use Rattle.command.specs.declared.word.Command.the-variants.{DeviceReset, Excep
 use Rattle.gauge.specs.Memory.{Memory}
 use Rattle.gauge.specs.PowerUp.{fresh-values, powered-up}
 use Rattle.gauge.specs.Commands.{done, obeyed}
-use Rattle.gauge.specs.Whole.{by-type, first-code, last-checks, effect, accepted, commit-row}
+use Rattle.gauge.specs.Checks.{asked-last, row-number, Test, last-order, refused-by, unless-refused}
+use Rattle.gauge.specs.Whole.{by-type, effect, write-by, commit-row}
 use Rattle.gauge.proofs.CommitLaws.{other-held}
 
 abbrev Long : List ℕ → Type 0
@@ -71,23 +74,6 @@ unfolding values-after
 values-long l was p valid faults seconds e =
     put-long _ power-on-time 4 seconds refl
     (summary-long _ (faults-long faults _ (trips-long (trips-after l was p valid) _ (reading-long p valid l e))))
-
--- ---- a card
-
-point-long : (l : List ℕ) (at : ℕ) (fields : List ℕ) → at + 34 ≤ 1024 → Long l → Long (with-point l at fields)
-unfolding with-point
-point-long l at fields h e =
-    put-long _ (at + low-hysteresis) 4 _ (fit 30 4 (omega arith))
-    (put-long _ (at + low-level) 4 _ (fit 14 4 (omega arith))
-    (put-long _ (at + high-hysteresis) 4 _ (fit 26 4 (omega arith))
-    (put-long _ (at + high-level) 4 _ (fit 2 4 (omega arith)) (put-long _ (at + low-enable) 1 _ (fit 1 1 (omega arith)) (put-long l (at + high-enable) 1 _ (fit 0 1 (omega arith)) e)))))
-  where
-    fit : (k n : ℕ) → k + n ≤ 34 → leb (at + k + n) 1024 ≡ true
-    fit k n q = le-leb (at + k + n) 1024 (omega arith)
-
-card-long : (l card : List ℕ) → Long l → Long (with-card l card)
-unfolding with-card
-card-long l card e = point-long _ settings-2 (fields-of card point-2) (omega arith) (point-long l settings-1 (fields-of card point-1) (omega arith) e)
 
 -- ---- commands
 
@@ -150,7 +136,7 @@ effect-sized : (k : ℕ) → k < row-count → (bytes : List ℕ) → length byt
 unfolding effect
 effect-sized k there bytes long m s =
     type-sized (at-row k) _ _ _
-    (record { values-are = card-long (m .values) bytes (s .values-are); block-is = s .block-is })
+    (record { values-are = with-card-length (m .values) bytes (s .values-are); block-is = s .block-is })
     (obeyed-sized (command-at (at-row k .index)) bytes m s)
     (λ p q.
     let i = row-rule k there .inside in
@@ -159,7 +145,10 @@ effect-sized k there bytes long m s =
       block-is = s .block-is;
     })
 
-pub commit-sized : (k : ℕ) → k < row-count → (bytes : List ℕ) → length bytes ≡ at-row k .len → (m : Memory) → Sized m → SizedAfter (commit-row (at-row k) bytes m)
-unfolding commit-row accepted
-commit-sized k there bytes long m s =
-    sized-cond (eqb (first-code (last-checks (at-row k) (m .values) bytes)) 0) _ _ (effect-sized k there bytes long m s) tt
+pub commit-sized : (k : ℕ) → k < row-count → (bytes : List ℕ) → length bytes ≡ at-row k .len → (m : Memory) → Sized m → SizedAfter (commit-row k bytes m)
+unfolding commit-row write-by counted row-number unless-refused
+commit-sized k there bytes long m s = go (refused-by (asked-last k bytes (m .values)) last-order)
+  where
+    go : (o : Option Test) → SizedAfter (unless-refused o declined (effect (at-row k) bytes m))
+    go none = effect-sized k there bytes long m s
+    go (some t) = tt

@@ -15,12 +15,12 @@ use Rattle.entry.specs.Entry.{entry-of, stored as entry-stored, default-of, def
 use Rattle.card.specs.Card.{enable, point-fields, point-bits, card-bits, card-of, fields-of, layout-verdict, level-verdict, first-bad, point-verdict, card-verdict, with-point, with-card}
 use Rattle.block.specs.Block.{width, entry-bits, entry-bytes, within, nv-rows, widths, saved, load-rows, values-good, rows-good, all-zero, block-of, headed, good}
 use Rattle.block.specs.Saved.{storable, stored as block-stored, loadable, loaded}
-use Rattle.gate.specs.Gates.{gate, smallest, largest, sizes-of}
 use Rattle.gate.specs.Lock.{guarded, locked}
 use Rattle.command.specs.Words.{command-at, word-of, read-word, status-of, with-status, same-bytes}
 use Rattle.gauge.specs.PowerUp.{fresh-values, powered-up}
 use Rattle.gauge.specs.Commands.{status-by, done, obeyed}
-use Rattle.gauge.specs.Whole.{by-type, value-of, read-through, read-whole, first-code, verdict-of, last-checks, effect, accepted, commit-row, with-trips, commit-through, commit-whole, write-sizes}
+use Rattle.gauge.specs.Checks.{row-number, smallest, largest, code-of, is-no-index, is-no-sub, verdict-of, fails, read-order, key-order, last-order, refused-by, unless-refused}
+use Rattle.gauge.specs.Whole.{by-type, value-of, read-checked, read-whole, sizes-checked, write-sizes, effect, write-by, with-trips, commit-whole}
 use Rattle.order.specs.Gauge.{narrowed, narrow, counted, judged, judgedBy, writeWhole, readResult, writeResult, written, result, after, results}
 use Rattle.order.specs.Observe.{gainedBy, gain, ended, refusedBy, if-yes, noted, note, onward, readDone, partDone, finished, placed, remember, followOne, follow, observeOne, observe}
 use Rattle.order.specs.Bytes.{client}
@@ -34,7 +34,7 @@ use Rattle.board.specs.Calls.{sized, number-by, served, message-call, power-up-
 use Rattle.demand3.specs.Firmware.{exported, history, final, power-on, line-of, answer-by, event-of, with-event, events, observed}
 
 unfoldable pub opened : Unit {0}
-unfolding lt isNan ofBits ofFields splice little fromLittle number real is-set msb bits num-from num field packed encode decode rows find-from find-row pick held verdict-code first-fault whole-verdict real-verdict by-kind kind-verdict entry-of entry-stored default-of defaulted defaults number-verdict row-verdict enable point-fields point-bits card-bits card-of fields-of layout-verdict level-verdict first-bad point-verdict card-verdict with-point with-card width entry-bits entry-bytes within nv-rows widths saved load-rows values-good rows-good all-zero block-of headed good storable block-stored loadable loaded gate smallest largest sizes-of command-at word-of read-word status-of with-status same-bytes guarded locked fresh-values powered-up status-by done obeyed by-type value-of read-through read-whole first-code verdict-of last-checks effect accepted commit-row with-trips commit-through commit-whole write-sizes narrowed narrow counted judged judgedBy writeWhole readOpening givePart readPart conclude takePart writeOpening writePart serve choice openingBy messageOf asked askOf answerOf eight numberOf allows counts pending view base lay speak record-place direction-of direction-byte record-at record-tail record-bytes trips-at trips-bytes sized number-by dropped settled served message-call power-up-call exported history final power-on
+unfolding lt isNan ofBits ofFields splice little fromLittle number real is-set msb bits num-from num field packed encode decode rows find-from find-row pick held verdict-code first-fault whole-verdict real-verdict by-kind kind-verdict entry-of entry-stored default-of defaulted defaults number-verdict row-verdict enable point-fields point-bits card-bits card-of fields-of layout-verdict level-verdict first-bad point-verdict card-verdict with-point with-card width entry-bits entry-bytes within nv-rows widths saved load-rows values-good rows-good all-zero block-of headed good storable block-stored loadable loaded smallest largest command-at word-of read-word status-of with-status same-bytes guarded locked fresh-values powered-up status-by done obeyed row-number code-of is-no-index is-no-sub verdict-of fails read-order key-order last-order refused-by unless-refused by-type value-of read-checked read-whole sizes-checked write-sizes effect write-by with-trips commit-whole narrowed narrow counted judged judgedBy writeWhole readOpening givePart readPart conclude takePart writeOpening writePart serve choice openingBy messageOf asked askOf answerOf eight numberOf allows counts pending view base lay speak record-place direction-of direction-byte record-at record-tail record-bytes trips-at trips-bytes sized number-by dropped settled served message-call power-up-call exported history final power-on
 opened = tt
 
 unfoldable pub observer-opened : Unit {0}

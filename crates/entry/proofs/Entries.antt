@@ -5,15 +5,13 @@ use Prim.Native.Nat.{ℕ, _+_, _<_, _≤_}
 use native.Mathlib.Omega.{arith}
 use lib.Dec.{T}
 use lib.ListN.{length, getD, replicate, length-replicate}
-use Rattle.table.specs.Row.{Row, no-row, BOOL, STRING}
+use Rattle.table.specs.Row.{Row, no-row, STRING}
 use Rattle.table.specs.Rows.{rows, row-count, at-row}
 use Rattle.table.specs.Rule.{held, table-ok}
 use Rattle.table.proofs.Rules.{rule-at, before-at, apart-at}
 use Rattle.table.proofs.Table.{rows-pass, rows-length, row-rule}
-use Rattle.entry.specs.Entry.{entry-of, stored, default-of, defaults, number-verdict}
-use Rattle.entry.specs.declared.limits.Verdict.the-variants.{Within}
+use Rattle.entry.specs.Entry.{entry-of, stored, default-of, defaults}
 use Rattle.entry.proofs.EntryLaws.{zero-at, default-zero, Beside-all, Inside, Rising, length-stored, stored-read, stored-other, length-defaults, defaults-read, defaults-byte}
-use Rattle.entry.proofs.RowLaws.{bool-within}
 
 module _ (xs : List Row) (pass : T (table-ok xs)) where
   inside : Inside 1024 xs
@@ -76,7 +74,3 @@ module _ (values : List ℕ) (long : length values ≡ 1024) where
   -- a string reads as zeros
   pub string-read : (k : ℕ) → k < row-count → STRING ≤ at-row k .kind → entry-of (at-row k) (defaults rows values) ≡ replicate (held (at-row k)) 0
   string-read k h s = default-read k h ∙ default-zero (at-row k) (row-rule k h .no-def s)
-
--- a BOOL that is within its limits is 0 or 1
-pub bool-row : (k : ℕ) → k < row-count → at-row k .kind ≡ BOOL → (v : ℕ) → number-verdict (at-row k) v ≡ Within → v ≤ 1
-bool-row k h b v w = bool-within (at-row k) v b (row-rule k h .bool-high b) w

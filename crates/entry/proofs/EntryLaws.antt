@@ -11,11 +11,11 @@ use lib.Seq.{getD-take, getD-drop}
 use lib.Dec.{leb}
 use borrow.Author.Tests.{le-leb}
 use Rattle.wire.specs.Little.{little}
-use Rattle.wire.proofs.SpliceLaws.{length-splice, part-length, is-apart, part-same, part-apart, at-above}
+use Rattle.wire.proofs.SpliceLaws.{length-splice, part-length, is-apart, part-same, part-apart}
 use Rattle.wire.proofs.LittleLaws.{length-little}
 use Rattle.table.specs.Row.{Row, no-row}
 use Rattle.table.specs.Rule.{held}
-use Rattle.entry.specs.Entry.{entry-of, copied, stored, default-of, defaulted, defaults}
+use Rattle.entry.specs.Entry.{entry-of, stored, default-of, defaulted, defaults}
 
 -- ---- one row
 
@@ -56,23 +56,6 @@ zero-at (suc n) (suc i) = zero-at n i
 pub entry-length : (r : Row) (values : List ℕ) → r .place + held r ≤ length values → length (entry-of r values) ≡ held r
 unfolding entry-of
 entry-length r values h = part-length values (r .place) (held r) h
-
--- the copy of an entry: 64 bytes, the entry's and then zeros
-module _ (r : Row) (values : List ℕ) (inside : r .place + held r ≤ length values) (most : held r ≤ 64) where
-  own : length (entry-of r values) ≡ held r
-  own = entry-length r values inside
-
-  pub copied-length : length (copied r values) ≡ 64
-  unfolding copied
-  copied-length = length-splice (replicate 64 0) 0 (entry-of r values) (omega (arith, own))
-
-  pub copied-read : take (held r) (copied r values) ≡ entry-of r values
-  unfolding copied
-  copied-read = part-same (replicate 64 0) 0 (entry-of r values) refl (held r) own
-
-  pub copied-behind : (i : ℕ) → held r ≤ i → getD (copied r values) i 0 ≡ 0
-  unfolding copied
-  copied-behind i h = at-above (replicate 64 0) 0 (entry-of r values) refl i (le-leb (0 + length (entry-of r values)) i (omega (arith, own))) ∙ zero-at 64 i
 
 pub default-length : (r : Row) → length (default-of r) ≡ held r
 unfolding default-of

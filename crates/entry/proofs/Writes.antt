@@ -12,7 +12,7 @@ use Rattle.wire.specs.Splice.{splice}
 use Rattle.wire.specs.Little.{little}
 use Rattle.table.specs.Row.{Row}
 use Rattle.table.specs.Rule.{held}
-use Rattle.entry.specs.Entry.{entry-of, copied, stored, default-of, defaulted}
+use Rattle.entry.specs.Entry.{entry-of, copied, stored}
 use Rattle.entry.specs.Words.{worded, Room}
 use Rattle.table.specs.Walk.{every}
 use Rattle.table.proofs.Walks.{every-at}
@@ -25,10 +25,6 @@ module _ (r : Row) (values : List ℕ) {x : List ℕ} {p : ℕ} (place : p ≡ r
   pub stored-is : (bytes : List ℕ) → x ≡ splice values p (take (length bytes) (drop 0 bytes)) → x ≡ stored r values bytes
   unfolding stored
   stored-is bytes e = e ∙ rw (take-all (length bytes) bytes (le-refl (length bytes)), place)
-
-  pub defaulted-is : {n d : ℕ} → n ≡ held r → d ≡ r .def → x ≡ splice values p (little n d) → x ≡ defaulted r values
-  unfolding defaulted stored default-of
-  defaulted-is n d e = e ∙ rw (n, d, place)
 
 -- the words from i on begin with word i
 module _ (ps ws : List ℕ) (e : length ws ≡ length ps) where

@@ -11,7 +11,7 @@ ghost use Rattle.table.specs.Row.{ULINT};
 ghost use Rattle.table.specs.Rows.{rows, row-count, at-row};
 ghost use Rattle.table.specs.Rule.{held};
 ghost use Rattle.entry.specs.Words.{worded, Room};
-ghost use Rattle.entry.specs.Entry.{held-by, copied, stored, defaulted, defaults, number-len, number-verdict, row-verdict};
+ghost use Rattle.entry.specs.Entry.{held-by, copied, stored, defaults, number-len, number-verdict, row-verdict};
 
 // The bytes that an entry has in the values, by its type and length.
 fn held_by(kind: u8, len: usize) -> usize
@@ -21,14 +21,6 @@ fn held_by(kind: u8, len: usize) -> usize
         0..=6 => len,
         _ => 0,
     }
-}
-
-pub fn held_of(row: usize) -> usize
-    requires { ⌜ row < row-count ⌝ }
-    ensures { λ r. ⌜ r ≡ held (at-row row) ⌝ }
-{
-    let shape = find::field::shape_of(row);
-    held_by(find::field::kind_in(shape), find::field::len_in(shape))
 }
 
 // ---- judging
@@ -93,19 +85,6 @@ pub fn store_entry(values: &mut [u8], row: usize, value: &[u8])
 }
 
 // ---- defaults
-
-// One row's default.
-pub fn put_default(values: &mut [u8], row: usize)
-    requires { ⌜ (length (now values) ≡ 1024) × (row < row-count) ⌝ }
-    ensures { λ _. ⌜ now (values .exit) ≡ defaulted (at-row row) (now (values .entry)) ⌝ }
-{
-    wire::put_number(
-        values,
-        find::field::place_of(row),
-        held_of(row),
-        find::field::def_of(row),
-    );
-}
 
 // Words of four bytes, each at its place. The columns are lent, so that they are laid out once for all words.
 fn put_words(values: &mut [u8], places: &[u16], words: &[u32])

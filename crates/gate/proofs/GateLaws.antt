@@ -16,7 +16,8 @@ use Rattle.find.specs.declared.Sought.the-variants.{Row as Row', NoIndex as NoI
 use Rattle.table.proofs.Table.{find-at}
 use Rattle.find.proofs.Way.{sought-row, sought-no-index, sought-no-sub}
 use Rattle.find.proofs.Shapes.{access-told}
-use Rattle.gate.specs.Gates.{to-row, no-way, gate, way-of, Shaped, index-absent, subindex-absent}
+use Rattle.gate.specs.Codes.{index-absent, subindex-absent}
+use Rattle.gate.specs.Gates.{to-row, no-way, gate, way-of, Shaped}
 use Rattle.gate.specs.declared.Gate.{Gate}
 use Rattle.gate.specs.declared.Gate.the-variants.{Open, Shut}
 

@@ -1,28 +1,16 @@
--- RULE: what the table says of a key before a value is looked at (R7.3, R7.4). Assumes nothing.
+-- SHAPE: what the table says of a key before a value is looked at (R7.3, R7.4). Assumes nothing.
 use mathlib.Core.Path.{_≡_}
 use mathlib.Core.Bool.{cond}
 use Prim.Native.Nat.{ℕ}
 use lib.Dec.{eqb}
-use Rattle.order.specs.Talk.{Sizes, sizes, closed}
 use Rattle.table.specs.Row.{RO, WO}
 use Rattle.table.specs.Rows.{at-row}
 use Rattle.find.specs.Columns.{shape}
 use Rattle.table.specs.declared.Found.{Found}
 use Rattle.table.specs.declared.Found.the-variants.{At, NoIndex, NoSub}
+use Rattle.gate.specs.Codes.{index-absent, subindex-absent, write-only, read-only}
 use Rattle.gate.specs.declared.Gate.{Gate}
 use Rattle.gate.specs.declared.Gate.the-variants.{Open, Shut}
-
-abbrev pub index-absent : ℕ
-index-absent = 0x06020000
-
-abbrev pub subindex-absent : ℕ
-subindex-absent = 0x06090011
-
-abbrev pub write-only : ℕ
-write-only = 0x06010001
-
-abbrev pub read-only : ℕ
-read-only = 0x06010002
 
 -- where a key leads: to a row, or no way, and the code says why
 pub data Way : Type 0 where
@@ -40,18 +28,6 @@ read-gate found = gate WO write-only found
 
 abbrev pub write-gate : Found → Way
 write-gate found = gate RO read-only found
-
--- the smallest and the largest length of a row's entry: in the base they are one
-unfoldable pub smallest : ℕ → ℕ
-smallest r = at-row r .len
-
-unfoldable pub largest : ℕ → ℕ
-largest r = at-row r .len
-
--- the lengths that a write may have
-unfoldable pub sizes-of : Way → Sizes
-sizes-of (to-row r) = sizes (smallest r) (largest r)
-sizes-of (no-way code) = closed code
 
 -- ---- the code's enum, which has more than the way: beside the row stands the row's shape
 

@@ -2,12 +2,14 @@
 use mathlib.Core.Path.{_≡_, sym, _∙_}
 use mathlib.Core.Bool.{Bool, true, false}
 use mathlib.Core.List.{List}
+use mathlib.Core.Option.{Option, none, some}
 use Prim.Native.Nat.{ℕ, _≤_, _<_}
 use native.Mathlib.Omega.{arith}
 use lib.ListN.{replicate}
 use borrow.Author.Tests.{eq-eqb, ne-eqb}
 use Rattle.wire.specs.Splice.{splice}
-use Rattle.order.specs.Talk.{stored}
+use Rattle.order.specs.Talk.{Outcome, stored, declined}
+use Rattle.order.specs.Gauge.{counted}
 use Rattle.table.specs.Row.{Row, CARD, COMMAND}
 use Rattle.table.specs.Rows.{row-count, at-row}
 use Rattle.table.specs.Rule.{held}
@@ -22,17 +24,20 @@ use Rattle.entry.proofs.RowLaws.{held-is}
 use Rattle.card.specs.Card.{card-of, card-verdict, with-card}
 use Rattle.block.specs.Saved.{storable, loadable, loaded}
 use Rattle.block.specs.Saved as saved
+use Rattle.gate.specs.Codes.{lock-shut}
 use Rattle.gate.specs.Lock.{locked}
 use Rattle.command.specs.Words.{command-at, word-of, read-word, with-status, same-bytes}
 use Rattle.command.specs.Exceptions.{exceptions-cleared}
 use Rattle.command.specs.declared.word.Command.{Command}
 use Rattle.command.specs.declared.word.Command.the-variants.{DeviceReset, ExceptionReset, StoreParameters, LoadParameters}
-use Rattle.gauge.specs.Memory.{memory-of}
+use Rattle.gauge.specs.Memory.{Memory, memory-of}
 use Rattle.gauge.specs.PowerUp.{fresh-values, powered-up}
 use Rattle.gauge.specs.Commands.{status-by, done, obeyed}
 use Rattle.gauge.specs.Endings.{Left, left, left-by}
-use Rattle.gauge.specs.Whole.{by-type, value-of, first-code, verdict-of, last-checks, effect, accepted, commit-row}
+use Rattle.gauge.specs.Checks.{asked-last, row-number, Test, code-of, verdict-of, fails, last-order, refused-by, unless-refused, told}
+use Rattle.gauge.specs.Whole.{by-type, value-of, effect, write-by, commit-row}
 use Rattle.gauge.specs.declared.commit.Ending.the-variants.{Accepted, Restarted, Refused}
+use Rattle.gauge.proofs.InOrder.{none-told}
 
 -- ---- by type
 
@@ -60,19 +65,20 @@ other-held k h n m = held-is (at-row k) (below (at-row k .kind) (row-rule k h .k
 
 -- ---- the last checks
 
-module _ (r : Row) (values bytes : List ℕ) where
-  pub lock-refuses : locked r values ≡ true → 0x08000022 ≡ first-code (last-checks r values bytes)
-  unfolding last-checks first-code
+module _ (row : ℕ) (values bytes : List ℕ) where
+  pub lock-refuses : locked (at-row row) values ≡ true → lock-shut ≡ told (refused-by (asked-last row bytes values) last-order)
+  unfolding refused-by last-order fails unless-refused code-of row-number
   lock-refuses e = rw e
 
   -- the three tests of the limits give the verdict's own code
-  pub limits-first : (v : Verdict) → verdict-of r bytes ≡ v → locked r values ≡ false → verdict-code v ≡ first-code (last-checks r values bytes)
-  unfolding last-checks first-code verdict-code
+  pub limits-first : (v : Verdict) → verdict-of (at-row row) bytes ≡ v → locked (at-row row) values ≡ false → verdict-code v ≡ told (refused-by (asked-last row bytes values) last-order)
+  unfolding refused-by last-order fails unless-refused code-of row-number counted verdict-code
   limits-first Within e l = rw (l, e)
   limits-first NotANumber e l = rw (l, e)
   limits-first Above e l = rw (l, e)
   limits-first Below e l = rw (l, e)
 
+module _ (r : Row) (bytes : List ℕ) where
   pub card-judged : r .kind ≡ CARD → verdict-of r bytes ≡ card-verdict bytes
   unfolding verdict-of
   card-judged e = rw (eq-eqb (r .kind) CARD e)
@@ -128,14 +134,27 @@ module _ (v b : List ℕ) where
     unfolding effect left-by
     put-other n m q = rw (of-other r k kind (stored (memory-of (with-card v bytes) b)) (obeyed (command-at (r .index)) bytes (memory-of v b)) (stored (memory-of (entry.stored r v bytes) b)) n m, q)
 
-  module _ (r : Row) (bytes : List ℕ) (code : ℕ) (first : code ≡ first-code (last-checks r v bytes)) where
-    pub commit-refused : (code ≡ 0 → ⊥) → left (Refused code) v b ≡ left-by (memory-of v b) (commit-row r bytes (memory-of v b))
-    unfolding commit-row accepted left-by
-    commit-refused n = rw (← first, ne-eqb code 0 n)
+  module _ (code : ℕ) (o : Option Test) (first : code ≡ told o) (done : Outcome Memory) where
+    refused-left : (code ≡ 0 → ⊥) → left (Refused code) v b ≡ left-by (memory-of v b) (unless-refused o declined done)
+    unfolding unless-refused left-by
+    refused-left n = go o first
+      where
+        go : (o : Option Test) → code ≡ told o → left (Refused code) v b ≡ left-by (memory-of v b) (unless-refused o declined done)
+        go none e = absurd (n e)
+        go (some t) e = rw e
 
-    pub commit-accepted : {x : Left} → code ≡ 0 → x ≡ left-by (memory-of v b) (effect r bytes (memory-of v b)) → x ≡ left-by (memory-of v b) (commit-row r bytes (memory-of v b))
-    unfolding commit-row accepted
-    commit-accepted e q = rw (← first, e) q
+    accepted-left : {x : Left} → code ≡ 0 → x ≡ left-by (memory-of v b) done → x ≡ left-by (memory-of v b) (unless-refused o declined done)
+    unfolding unless-refused
+    accepted-left z q = rw (none-told o (sym first ∙ z)) q
+
+  module _ (row : ℕ) (bytes : List ℕ) (code : ℕ) (first : code ≡ told (refused-by (asked-last row bytes v) last-order)) where
+    pub commit-refused : (code ≡ 0 → ⊥) → left (Refused code) v b ≡ left-by (memory-of v b) (commit-row row bytes (memory-of v b))
+    unfolding commit-row write-by counted row-number
+    commit-refused n = refused-left code _ first _ n
+
+    pub commit-accepted : {x : Left} → code ≡ 0 → x ≡ left-by (memory-of v b) (effect (at-row row) bytes (memory-of v b)) → x ≡ left-by (memory-of v b) (commit-row row bytes (memory-of v b))
+    unfolding commit-row write-by counted row-number
+    commit-accepted e q = accepted-left code _ first _ e q
 
 -- ---- the value of a row
 

@@ -2,17 +2,19 @@
 use mathlib.Core.Path.{_≡_, refl, sym, ap, _∙_}
 use mathlib.Core.Bool.{Bool, true, false, cond, _&&_, _||_, or-true}
 use mathlib.Core.List.{List}
+use mathlib.Core.Option.{Option, none, some}
 use Prim.Native.Nat.{ℕ, _+_, _<_, _≤_}
 use native.Mathlib.Omega.{arith}
 use lib.Dec.{T, leb, eqb}
 use lib.Ieee.Bits.{is-true}
 use lib.ListN.{length, replicate}
-use borrow.Author.Tests.{le-leb, eq-eqb, eqb-true}
+use borrow.Author.Tests.{le-leb, eq-eqb}
 use Rattle.wire.specs.Splice.{splice, apart}
 use Rattle.wire.specs.Little.{little}
 use Rattle.wire.proofs.SpliceLaws.{length-splice, splice-length, part-apart}
 use Rattle.wire.proofs.LittleLaws.{Bytes, length-little, put-length}
 use Rattle.order.specs.Talk.{Said, Outcome, stored, restarted, declined}
+use Rattle.order.specs.Gauge.{counted}
 use Rattle.table.specs.Row.{Row, no-row, CARD, COMMAND}
 use Rattle.table.specs.Rows.{rows, row-count, at-row}
 use Rattle.table.specs.Rule.{pick, held}
@@ -41,10 +43,11 @@ use Rattle.gauge.specs.Memory.{Memory, with-values}
 use Rattle.gauge.specs.PowerUp.{powered-up}
 use Rattle.gauge.specs.Commands.{done, obeyed}
 use Rattle.gauge.specs.Endings.{left, left-by}
-use Rattle.gauge.specs.Whole.{value-of, first-code, verdict-of, last-checks, effect, accepted, commit-row}
-use Rattle.gauge.specs.Checks.{asked, fails, under-lock, row-number}
+use Rattle.gauge.specs.Checks.{asked, asked-last, fails, under-lock, row-number, Test, verdict-of, last-order, refused-by, unless-refused, told}
+use Rattle.gauge.specs.Whole.{value-of, effect, write-by, commit-row}
 use Rattle.gauge.specs.declared.commit.Ending.the-variants.{Refused}
-use Rattle.gauge.proofs.CommitLaws.{of-card, of-other, other-held, card-length, lock-refuses, limits-first, card-judged}
+use Rattle.gauge.proofs.InOrder.{each-passes}
+use Rattle.gauge.proofs.CommitLaws.{of-card, of-other, other-held, card-length, limits-first, card-judged}
 
 -- "The lock .. never [refuses writes] to itself"
 pub lock-open : (s : Said) (bytes values : List ℕ) → fails under-lock (asked (find-row 0x2003 0) s bytes values) ≡ false
@@ -52,9 +55,9 @@ unfolding fails row-number locked guarded rows
 lock-open s bytes values = rw lock-found
 
 -- what is refused changes nothing
-pub refused-keeps : (r : Row) (bytes : List ℕ) (m : Memory) (c : ℕ) → commit-row r bytes m ≡ declined c → left-by m (commit-row r bytes m) ≡ left (Refused c) (m .values) (m .block)
+pub refused-keeps : (row : ℕ) (bytes : List ℕ) (m : Memory) (c : ℕ) → commit-row row bytes m ≡ declined c → left-by m (commit-row row bytes m) ≡ left (Refused c) (m .values) (m .block)
 unfolding left-by
-refused-keeps r bytes m c e = rw e
+refused-keeps row bytes m c e = rw e
 
 -- "Device reset answers, then does power-up"
 pub reset-is-power-up : (m : Memory) → obeyed DeviceReset (word-of DeviceReset) m ≡ restarted (powered-up m)
@@ -63,13 +66,10 @@ reset-is-power-up m = refl
 
 -- ---- accepted writes
 
-accepted-code : (code : ℕ) (o : Outcome Memory) (n : Memory) → accepted code o ≡ stored n → (code ≡ 0) × (o ≡ stored n)
-unfolding accepted
-accepted-code code o n e = go (eqb code 0) refl e
-  where
-    go : (b : Bool) → eqb code 0 ≡ b → cond b o (declined code) ≡ stored n → (code ≡ 0) × (o ≡ stored n)
-    go true t e = (eqb-true code 0 t, e)
-    go false t e = absurd (let z : _≡_ {A = ℕ} 0 1 = cc in omega arith)
+passed-all : (o : Option Test) (x : Outcome Memory) (n : Memory) → unless-refused o declined x ≡ stored n → (o ≡ none) × (x ≡ stored n)
+unfolding unless-refused
+passed-all none x n e = (refl, e)
+passed-all (some t) x n e = absurd (let z : _≡_ {A = ℕ} 0 1 = cc in omega arith)
 
 only-one : (x n : Memory) → _≡_ {A = Outcome Memory} (stored x) (stored n) → x ≡ n
 only-one x n e = cc
@@ -82,42 +82,40 @@ no-code Above e = absurd (omega arith)
 no-code Below e = absurd (omega arith)
 
 -- they passed the lock and lie within the limits
-module _ (r : Row) (bytes : List ℕ) (m n : Memory) (done : commit-row r bytes m ≡ stored n) where
-  passed : (first-code (last-checks r (m .values) bytes) ≡ 0) × (effect r bytes m ≡ stored n)
-  unfolding commit-row
-  passed = accepted-code _ _ n done
+module _ (row : ℕ) (bytes : List ℕ) (m n : Memory) (done : commit-row row bytes m ≡ stored n) where
+  passed : (refused-by (asked-last row bytes (m .values)) last-order ≡ none) × (effect (at-row row) bytes m ≡ stored n)
+  unfolding commit-row write-by counted row-number
+  passed = passed-all _ _ n done
 
-  pub accepted-unlocked : locked r (m .values) ≡ false
-  accepted-unlocked = go (locked r (m .values)) refl
-    where
-      go : (b : Bool) → locked r (m .values) ≡ b → b ≡ false
-      go true t = absurd (omega (arith, lock-refuses r (m .values) bytes t ∙ passed .0))
-      go false t = refl
+  pub accepted-unlocked : locked (at-row row) (m .values) ≡ false
+  unfolding last-order fails row-number
+  accepted-unlocked = each-passes (asked-last row bytes (m .values)) last-order (passed .0) 0 (omega arith)
 
-  pub accepted-within : verdict-of r bytes ≡ Within
-  accepted-within = no-code (verdict-of r bytes) (limits-first r (m .values) bytes (verdict-of r bytes) refl accepted-unlocked ∙ passed .0)
+  pub accepted-within : verdict-of (at-row row) bytes ≡ Within
+  unfolding unless-refused
+  accepted-within = no-code (verdict-of (at-row row) bytes) (limits-first row (m .values) bytes (verdict-of (at-row row) bytes) refl accepted-unlocked ∙ ap told (passed .0))
 
 -- a stored entry reads as the bytes that were written
 module _ (k : ℕ) (there : k < row-count) (no-card : at-row k .kind ≡ CARD → ⊥) (no-command : at-row k .kind ≡ COMMAND → ⊥) where
-  pub write-read : (bytes : List ℕ) (m n : Memory) → length (m .values) ≡ 1024 → length bytes ≡ at-row k .len → commit-row (at-row k) bytes m ≡ stored n → value-of (at-row k) (n .values) ≡ bytes
+  pub write-read : (bytes : List ℕ) (m n : Memory) → length (m .values) ≡ 1024 → length bytes ≡ at-row k .len → commit-row k bytes m ≡ stored n → value-of (at-row k) (n .values) ≡ bytes
   unfolding effect value-of
   write-read bytes m n long size e =
       let r : Row = at-row k in
-      let v : entry.stored r (m .values) bytes ≡ n .values = ap (λ (x : Memory). x .values) (only-one _ n (sym (of-other r (r .kind) refl _ _ _ no-card no-command) ∙ passed r bytes m n e .1)) in
+      let v : entry.stored r (m .values) bytes ≡ n .values = ap (λ (x : Memory). x .values) (only-one _ n (sym (of-other r (r .kind) refl _ _ _ no-card no-command) ∙ passed k bytes m n e .1)) in
       of-other r (r .kind) refl _ _ _ no-card no-command
       ∙ ap (entry-of r) (sym v)
       ∙ row-store-read k there (m .values) bytes long (size ∙ sym (other-held k there no-card no-command))
 
 -- and so does the card
 pub card-write-read : (k : ℕ) → k < row-count → at-row k .kind ≡ CARD → (bytes : List ℕ) → Bytes bytes → (m n : Memory) → length (m .values) ≡ 1024 → length bytes ≡ at-row k .len
-    → commit-row (at-row k) bytes m ≡ stored n → value-of (at-row k) (n .values) ≡ bytes
+    → commit-row k bytes m ≡ stored n → value-of (at-row k) (n .values) ≡ bytes
 unfolding effect value-of
 card-write-read k there card bytes small m n long size e =
     let r : Row = at-row k in
-    let v : with-card (m .values) bytes ≡ n .values = ap (λ (x : Memory). x .values) (only-one _ n (sym (of-card r (r .kind) refl _ _ _ card) ∙ passed r bytes m n e .1)) in
+    let v : with-card (m .values) bytes ≡ n .values = ap (λ (x : Memory). x .values) (only-one _ n (sym (of-card r (r .kind) refl _ _ _ card) ∙ passed k bytes m n e .1)) in
     of-card r (r .kind) refl _ _ _ card
     ∙ ap card-of (sym v)
-    ∙ card-back (m .values) bytes long (size ∙ card-length k there card) small (sym (card-judged r (m .values) bytes card) ∙ accepted-within r bytes m n e)
+    ∙ card-back (m .values) bytes long (size ∙ card-length k there card) small (sym (card-judged r bytes card) ∙ accepted-within k bytes m n e)
 
 -- ---- what a command leaves
 

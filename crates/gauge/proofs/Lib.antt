@@ -1,4 +1,5 @@
+pub mod InOrder
+pub mod ByGate
 pub mod CommitLaws
 pub mod ValueLaws
-pub mod InOrder
 pub mod GaugeLaws

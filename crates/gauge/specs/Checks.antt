@@ -1,21 +1,24 @@
 -- RULE: THE CHECKS of a whole read and of a whole write: named tests in their order (R7.1), each with its code. The first that fails
 -- refuses; what passes them all is served. Assumes nothing.
 use mathlib.Core.Bool.{Bool, true, false, cond}
-use mathlib.Core.List.{List, [], _∷_, map}
+use mathlib.Core.List.{List, [], _∷_, _++_}
 use mathlib.Core.Option.{Option, none, some}
 use Prim.Native.Nat.{ℕ}
 use lib.Dec.{ltb, eqb}
 use lib.ListN.{length}
-use Rattle.order.specs.Talk.{Said, announced, unsaid, own, Read, value, denied, Outcome}
+use Rattle.order.specs.Talk.{Said, announced, unsaid, own}
 use Rattle.order.specs.Gauge.{tooLong, tooShort, counted}
-use Rattle.table.specs.Row.{Row, RO, WO}
+use Rattle.table.specs.Row.{Row, RO, WO, CARD}
 use Rattle.table.specs.Rows.{row-count, at-row}
 use Rattle.table.specs.declared.Found.{Found}
 use Rattle.table.specs.declared.Found.the-variants.{At, NoIndex, NoSub}
-use Rattle.gate.specs.Gates.{index-absent, subindex-absent, write-only, read-only, smallest, largest}
+use Rattle.gate.specs.Codes.{index-absent, subindex-absent, write-only, read-only, lock-shut}
 use Rattle.gate.specs.Lock.{locked}
-use Rattle.gauge.specs.Memory.{Store}
-use Rattle.gauge.specs.Whole.{Check, check, first-code, is-code, value-of, effect, accepted, with-trips}
+use Rattle.entry.specs.Limits.{verdict-code}
+use Rattle.entry.specs.Entry.{row-verdict}
+use Rattle.entry.specs.declared.limits.Verdict.{Verdict}
+use Rattle.entry.specs.declared.limits.Verdict.the-variants.{NotANumber, Above, Below}
+use Rattle.card.specs.Card.{card-verdict}
 
 -- ---- what is asked
 
@@ -29,9 +32,13 @@ pub record Asked : Type 0 where
 abbrev pub asked : Found → Said → List ℕ → List ℕ → Asked
 asked found said bytes values = record { found = found; said = said; bytes = bytes; values = values }
 
--- a whole read brings no bytes
-abbrev pub asked-read : Found → Asked
-asked-read found = asked found unsaid [] []
+-- a read, and a write before its length is known, bring no bytes
+abbrev pub asked-key : Found → Asked
+asked-key found = asked found unsaid [] []
+
+-- the last message to a row brings the rest of them, and their length was judged before
+abbrev pub asked-last : ℕ → List ℕ → List ℕ → Asked
+asked-last row bytes values = asked (At row) unsaid bytes values
 
 -- the number of the row, behind the last where there is none
 unfoldable pub row-number : Found → ℕ
@@ -44,6 +51,13 @@ number-asked a = row-number (a .found)
 
 abbrev pub row-asked : Asked → Row
 row-asked a = at-row (number-asked a)
+
+-- the smallest and the largest length of a row's entry: in the base they are one
+unfoldable pub smallest : ℕ → ℕ
+smallest r = at-row r .len
+
+unfoldable pub largest : ℕ → ℕ
+largest r = at-row r .len
 
 -- the bytes that count
 abbrev pub sent : Asked → List ℕ
@@ -85,10 +99,10 @@ code-of announced-long = tooLong
 code-of announced-short = tooShort
 code-of sent-long = tooLong
 code-of sent-short = tooShort
-code-of under-lock = 0x08000022
-code-of no-number = 0x06090030
-code-of too-high = 0x06090031
-code-of too-low = 0x06090032
+code-of under-lock = lock-shut
+code-of no-number = verdict-code NotANumber
+code-of too-high = verdict-code Above
+code-of too-low = verdict-code Below
 
 unfoldable pub is-no-index : Found → Bool
 is-no-index (At r) = false
@@ -111,6 +125,13 @@ says-below low (announced n) = ltb n low
 says-below low unsaid = false
 says-below low own = false
 
+-- the bytes against the limits
+unfoldable pub verdict-of : Row → List ℕ → Verdict
+verdict-of r bytes = cond (eqb (r .kind) CARD) (card-verdict bytes) (row-verdict r bytes)
+
+abbrev pub judged-as : Verdict → Asked → Bool
+judged-as v a = eqb (verdict-code (verdict-of (row-asked a) (sent a))) (verdict-code v)
+
 unfoldable pub fails : Test → Asked → Bool
 fails no-such-index a = is-no-index (a .found)
 fails no-such-subindex a = is-no-sub (a .found)
@@ -121,52 +142,41 @@ fails announced-short a = says-below (smallest (number-asked a)) (a .said)
 fails sent-long a = ltb (most (largest (number-asked a)) (a .said)) (length (sent a))
 fails sent-short a = ltb (length (sent a)) (least (smallest (number-asked a)) (largest (number-asked a)) (a .said))
 fails under-lock a = locked (row-asked a) (a .values)
-fails no-number a = is-code 0x06090030 (row-asked a) (sent a)
-fails too-high a = is-code 0x06090031 (row-asked a) (sent a)
-fails too-low a = is-code 0x06090032 (row-asked a) (sent a)
+fails no-number a = judged-as NotANumber a
+fails too-high a = judged-as Above a
+fails too-low a = judged-as Below a
 
 -- ---- the order
 
--- R7.3, R7.4
+-- a read: its key (R7.3, R7.4)
 unfoldable pub read-order : List Test
 read-order = no-such-index ∷ no-such-subindex ∷ only-written ∷ []
 
--- R7.3 to R7.7: of the lengths the announced one first, then what was sent (R7.8)
-unfoldable pub write-order : List Test
-write-order =
-    no-such-index ∷
-    no-such-subindex ∷
-    only-read ∷
-    announced-long ∷
-    announced-short ∷
-    sent-long ∷
-    sent-short ∷
-    under-lock ∷
-    no-number ∷
-    too-high ∷
-    too-low ∷
-    []
+-- a write: its key, at the opening (R7.3, R7.4)
+unfoldable pub key-order : List Test
+key-order = no-such-index ∷ no-such-subindex ∷ only-read ∷ []
 
-unfoldable pub checks : Asked → List Test → List Check
-checks a ts = map (λ (t : Test). check (code-of t) (fails t a)) ts
+-- its length, announced and then sent (R7.5, R7.8)
+unfoldable pub length-order : List Test
+length-order = announced-long ∷ announced-short ∷ sent-long ∷ sent-short ∷ []
+
+-- the lock and the limits, at the last message (R7.6 to R7.8)
+unfoldable pub last-order : List Test
+last-order = under-lock ∷ no-number ∷ too-high ∷ too-low ∷ []
+
+unfoldable pub write-order : List Test
+write-order = key-order ++ (length-order ++ last-order)
 
 -- which test refuses, if any: the first that fails
 unfoldable pub refused-by : Asked → List Test → Option Test
 refused-by a [] = none
 refused-by a (t ∷ ts) = cond (fails t a) (some t) (refused-by a ts)
 
+-- what comes of it: the test's code, or what is done
+unfoldable pub unless-refused : {A : Type 0} → Option Test → (ℕ → A) → A → A
+unless-refused none refuse done = done
+unless-refused (some t) refuse done = refuse (code-of t)
+
 -- the code that is told, 0 where nothing refuses
-unfoldable pub told : Option Test → ℕ
-told none = 0
-told (some t) = code-of t
-
--- ---- a whole read and a whole write under their checks
-
-unfoldable pub answered : ℕ → List ℕ → Read
-answered code bytes = cond (eqb code 0) (value bytes) (denied code)
-
-abbrev pub read-checked : Store → Asked → Read
-read-checked g a = answered (first-code (checks a read-order)) (value-of (row-asked a) (g .memory .values))
-
-abbrev pub write-checked : Store → Asked → Outcome Store
-write-checked g a = with-trips g (accepted (first-code (checks a write-order)) (effect (row-asked a) (sent a) (g .memory)))
+abbrev pub told : Option Test → ℕ
+told o = unless-refused o (λ code. code) 0

@@ -2,5 +2,5 @@ pub mod Memory
 pub mod PowerUp
 pub mod Commands
 pub mod Endings
-pub mod Whole
 pub mod Checks
+pub mod Whole

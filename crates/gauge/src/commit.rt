@@ -11,7 +11,8 @@ ghost use Rattle.table.specs.Rows.{row-count, at-row};
 ghost use Rattle.gauge.specs.Memory.{memory-of};
 ghost use Rattle.gauge.specs.Commands.{status-by, done, obeyed};
 ghost use Rattle.gauge.specs.Endings.{left, left-by};
-ghost use Rattle.gauge.specs.Whole.{first-code, last-checks, effect, commit-row};
+ghost use Rattle.gauge.specs.Checks.{asked-last, last-order, refused-by, told};
+ghost use Rattle.gauge.specs.Whole.{effect, commit-row};
 
 // How a write ends; after a restart the lines' transfers are dropped and the trips are off.
 pub enum Ending {
@@ -69,7 +70,7 @@ fn obey(values: &mut [u8], block: &mut [u8], command: Command, bytes: &[u8]) -> 
 // The code of the first of the last checks that refuses, 0 where none does.
 fn refusal(values: &[u8], row: usize, kind: u8, bytes: &[u8]) -> u32
     requires { ⌜ (length (now values) ≡ 1024) × (row < row-count) × (kind ≡ at-row row .kind) × (length (now bytes) ≡ at-row row .len) ⌝ }
-    ensures { λ r. ⌜ r ≡ first-code (last-checks (at-row row) (now (values .entry)) (now (bytes .entry))) ⌝ }
+    ensures { λ r. ⌜ r ≡ told (refused-by (asked-last row (now (bytes .entry)) (now (values .entry))) last-order) ⌝ }
 {
     if lock::refuses(values, row, kind) {
         return 0x08000022;
@@ -99,7 +100,7 @@ fn put(values: &mut [u8], block: &mut [u8], row: usize, kind: u8, bytes: &[u8]) 
 // The last checks, then the write, of a row that has this type.
 pub fn commit(values: &mut [u8], block: &mut [u8], row: usize, kind: u8, bytes: &[u8]) -> Ending
     requires { ⌜ (length (now values) ≡ 1024) × (length (now block) ≡ 512) × (row < row-count) × (kind ≡ at-row row .kind) × (length (now bytes) ≡ at-row row .len) ⌝ }
-    ensures { λ r. ⌜ left r (now (values .exit)) (now (block .exit)) ≡ left-by (memory-of (now (values .entry)) (now (block .entry))) (commit-row (at-row row) (now (bytes .entry)) (memory-of (now (values .entry)) (now (block .entry)))) ⌝ }
+    ensures { λ r. ⌜ left r (now (values .exit)) (now (block .exit)) ≡ left-by (memory-of (now (values .entry)) (now (block .entry))) (commit-row row (now (bytes .entry)) (memory-of (now (values .entry)) (now (block .entry)))) ⌝ }
 {
     let code = refusal(values, row, kind, bytes);
     if code != 0 {

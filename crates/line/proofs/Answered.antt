@@ -52,7 +52,7 @@ module _ (at : ℕ) (v b s : List ℕ) where
   told-as x d q i = kept-told x d q ∙ ap (answered at v b s) i
 
   pub committed-told : (eight : List ℕ) (t : Transfer) {x : Told}
-      → x ≡ told-by at s (concluded (memory-of v b) (t .row) eight (commit-row (at-row (t .row)) (take (t .len) (t .held)) (memory-of v b)))
+      → x ≡ told-by at s (concluded (memory-of v b) (t .row) eight (commit-row (t .row) (take (t .len) (t .held)) (memory-of v b)))
       → x ≡ answered at v b s (committing eight t)
   unfolding act-by
   committed-told eight t q = q

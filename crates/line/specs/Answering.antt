@@ -68,7 +68,7 @@ concluded m row eight (declined code) = acted m allZero false (answerOf (refused
 
 unfoldable pub act-by : Memory → Reply → Act → Acted
 act-by m r Done = acted m (r .next) false (r .eight)
-act-by m r (Commit row len) = concluded m row (r .eight) (commit-row (at-row row) (take len (r .next .held)) m)
+act-by m r (Commit row len) = concluded m row (r .eight) (commit-row row (take len (r .next .held)) m)
 
 -- ---- what the functions of a line leave
 

@@ -37,7 +37,7 @@ fn conclude(
     bytes: &[u8],
 ) -> Ending
     requires { ⌜ Ready at (now values) (now block) (now state) × (row < row-count) × (kind ≡ at-row row .kind) × (length (now bytes) ≡ at-row row .len) ⌝ }
-    ensures { λ r. ⌜ (left r (now (values .exit)) (now (block .exit)) ≡ left-by (memory-of (now (values .entry)) (now (block .entry))) (commit-row (at-row row) (now (bytes .entry)) (memory-of (now (values .entry)) (now (block .entry))))) × (now (state .exit) ≡ state-by at r (now (state .entry))) ⌝ }
+    ensures { λ r. ⌜ (left r (now (values .exit)) (now (block .exit)) ≡ left-by (memory-of (now (values .entry)) (now (block .entry))) (commit-row row (now (bytes .entry)) (memory-of (now (values .entry)) (now (block .entry))))) × (now (state .exit) ≡ state-by at r (now (state .entry))) ⌝ }
 {
     let ending = gauge::commit::commit(values, block, row, kind, bytes);
     match ending {

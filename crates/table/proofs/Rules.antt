@@ -39,7 +39,6 @@ pub record RowRule (r : Row) : Type 0 where
   pub ulint-low : r .kind ≡ ULINT → r .low ≡ 0
   pub ulint-high : r .kind ≡ ULINT → r .high ≡ 0xFFFFFFFFFFFFFFFF
   pub no-low : STRING ≤ r .kind → r .low ≡ 0
-  pub no-high : STRING ≤ r .kind → r .high ≡ 0
   pub no-def : STRING ≤ r .kind → r .def ≡ 0
 
 -- a test that is made only where another passes
@@ -80,7 +79,6 @@ row-ok→rule r t =
       ulint-low = λ e. eqb→eq _ _ (both-left (eqb (r .low) 0) _ (made (eqb (r .kind) ULINT) _ (test 19) (eq-eqb _ _ e)));
       ulint-high = λ e. eqb→eq _ _ (both-right (eqb (r .low) 0) _ (made (eqb (r .kind) ULINT) _ (test 19) (eq-eqb _ _ e)));
       no-low = λ s. eqb→eq _ _ (made (leb STRING (r .kind)) _ (test 20) (le-leb _ _ s));
-      no-high = λ s. eqb→eq _ _ (made (leb STRING (r .kind)) _ (test 21) (le-leb _ _ s));
       no-def = λ s. eqb→eq _ _ (made (leb STRING (r .kind)) _ (test 22) (le-leb _ _ s));
     }
 

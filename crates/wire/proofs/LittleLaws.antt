@@ -5,14 +5,13 @@ use mathlib.Core.List.{List, [], _∷_, _++_}
 use Prim.Native.Nat.{ℕ, zero, suc, _+_, _*_, _/_, _%_, _^_, _≤_, _<_}
 use native.Mathlib.Nat.{mul-assoc}
 use native.Mathlib.Omega.{arith}
-use lib.Dec.{leb, ltb}
+use lib.Dec.{leb}
 use lib.Pow.{pow-add}
 use lib.ListN.{length, take, drop, getD}
 use lib.Seq.{take-nil, drop-nil, getD-drop}
-use borrow.Author.Tests.{ltb-true}
 use Rattle.wire.specs.Splice.{splice, apart}
 use Rattle.wire.specs.Little.{little, fromLittle, number, put-number}
-use Rattle.wire.proofs.SpliceLaws.{splice-length, part-length, part-same, part-apart}
+use Rattle.wire.proofs.SpliceLaws.{splice-length, part-length, part-apart}
 
 -- ---- the bytes of a number
 
@@ -90,11 +89,6 @@ unfolding number
 little-number l at n h room = rw (part-length l at n room) at (little-from (take n (drop at l)) (bytes-part l at n h))
 
 -- ---- a number read after a splice: the conditions are tests, so that numbers settle them
-
--- what was written is read
-pub number-same : (l : List ℕ) (at n v : ℕ) → leb at (length l) ≡ true → ltb v (2 ^ (8 * n)) ≡ true → number (splice l at (little n v)) at n ≡ v
-unfolding number
-number-same l at n v room fit = rw (part-same l at (little n v) room n (length-little n v)) (from-little n v (ltb-true _ _ fit))
 
 pub number-apart : (l : List ℕ) (at : ℕ) (vs : List ℕ) (q m : ℕ) → leb at (length l) ≡ true → apart at (length vs) q m ≡ true → number (splice l at vs) q m ≡ number l q m
 unfolding number

@@ -6,10 +6,10 @@ use mathlib.Core.List.{List, [], _∷_, _++_, append-assoc, append-nil}
 use Prim.Native.Nat.{ℕ, suc, _+_, _-_, _≤_, _<_}
 use native.Mathlib.Nat.{add-zero}
 use native.Mathlib.Omega.{arith}
-use lib.Dec.{leb, ltb}
-use lib.ListN.{length, take, drop, getD, set, length-append, length-take, length-drop, List·getD-append, take-append-drop}
-use lib.Seq.{take-at, drop-at, length-take-le, drop-drop, take-add, drop-append-le, take-append-le, drop-length, getD-drop, getD-take, getD-append-add, take-suc-set, drop-set-lt}
-use borrow.Author.Tests.{leb-true, ltb-true, le-leb}
+use lib.Dec.{leb}
+use lib.ListN.{length, take, drop, set, length-append, length-take, length-drop, take-append-drop}
+use lib.Seq.{take-at, drop-at, length-take-le, drop-drop, take-add, drop-append-le, take-append-le, drop-length, take-suc-set, drop-set-lt}
+use borrow.Author.Tests.{leb-true, le-leb}
 use Rattle.wire.specs.Splice.{splice, apart}
 
 pub length-splice : (l : List ℕ) (at : ℕ) (vs : List ℕ) → at + length vs ≤ length l → length (splice l at vs) ≡ length l
@@ -148,24 +148,3 @@ module _ (l : List ℕ) (at : ℕ) (vs : List ℕ) (room : leb at (length l) ≡
       either (leb (at + length vs) q) (leb (q + m) at) h
       (λ a. ap (take m) (drop-above l at vs q (leb-true _ _ a) (leb-true _ _ room)))
       (λ b. part-below l at vs q m (leb-true _ _ b) (leb-true _ _ room))
-
-  -- an element below, in and above the part
-  pub at-below : (i : ℕ) → ltb i at ≡ true → getD (splice l at vs) i 0 ≡ getD l i 0
-  unfolding splice
-  at-below i h =
-      let a : length (take at l) ≡ at = length-take-le at l (leb-true _ _ room) in
-      List·getD-append (take at l) (vs ++ drop (at + length vs) l) 0 i (omega (arith, ltb-true i at h))
-      ∙ getD-take at l i 0 (ltb-true i at h)
-
-  pub at-inside : (j : ℕ) → ltb j (length vs) ≡ true → getD (splice l at vs) (at + j) 0 ≡ getD vs j 0
-  unfolding splice
-  at-inside j h =
-      let a : length (take at l) ≡ at = length-take-le at l (leb-true _ _ room) in
-      ap (λ (k : ℕ). getD (take at l ++ (vs ++ drop (at + length vs) l)) (k + j) 0) (sym a)
-      ∙ getD-append-add (take at l) (vs ++ drop (at + length vs) l) j 0
-      ∙ List·getD-append vs (drop (at + length vs) l) 0 j (ltb-true j (length vs) h)
-
-  pub at-above : (i : ℕ) → leb (at + length vs) i ≡ true → getD (splice l at vs) i 0 ≡ getD l i 0
-  at-above i h =
-      let z : i ≡ i + 0 = sym (add-zero i) in
-      rw z (sym (getD-drop i (splice l at vs) 0 0) ∙ ap (λ (x : List ℕ). getD x 0 0) (drop-above l at vs i (leb-true _ _ h) (leb-true _ _ room)) ∙ getD-drop i l 0 0)

@@ -21,15 +21,15 @@ sub-result c = search needs
 shr-result : tie.Need-shr-result
 shr-result c = search needs
 
-cast-result : tie.Need-cast-result
-cast-result c =
-    let a = c .before .before .args in
-    omega (arith, field-shifted (a .s .now) (a .at) (a .width) (omega arith) (omega arith) (c .window .result) (c .window .ensures), field-fits (a .s .now) (a .at) (a .width) 32 (omega arith))
-
 returns : tie.Need-returns
 returns c =
     let a = c .before .before .args in
     field-shifted (a .s .now) (a .at) (a .width) (omega arith) (omega arith) (c .window .result) (c .window .ensures)
+
+cast-result : tie.Need-cast-result
+cast-result c =
+    let a = c .before .before .args in
+    omega (arith, field-shifted (a .s .now) (a .at) (a .width) (omega arith) (omega arith) (c .window .result) (c .window .ensures), field-fits (a .s .now) (a .at) (a .width) 32 (omega arith))
 
 pub cut-field-spec : {M : Type 1} → statement M
 cut-field-spec = tie.close (tie.spec add-window window-requires shl-result sub-result shr-result cast-result returns)

@@ -44,11 +44,11 @@ got c =
     let a = c .before .before .args in
     rw (one-shifted (a .width) (omega arith)) (field-got (a .s .now) (a .at) (a .width) (omega arith) (c .window .result) (c .window .ensures))
 
-cast-result : tie.Need-cast-result
-cast-result c = let a = c .before .before .args in omega (arith, got c, field-fits (a .s .now) (a .at) (a .width) 32 (omega arith))
-
 returns : tie.Need-returns
 returns c = got c
+
+cast-result : tie.Need-cast-result
+cast-result c = let a = c .before .before .args in omega (arith, got c, field-fits (a .s .now) (a .at) (a .width) 32 (omega arith))
 
 pub get-field-spec : {M : Type 1} → statement M
 get-field-spec =

@@ -1,4 +1,5 @@
 -- `load_by` meets its contract: as many entries are taken as a load takes. Assumes nothing.
+use native.Mathlib.Omega.{arith}
 use borrow.Author.Needs.{needs}
 use Rattle.block.proofs.Whole.{taken-most, load-done}
 use Rattle.block.proofs.load_by.Statement.{statement}
@@ -14,7 +15,7 @@ take-entries-requires : tie.Need-take-entries-requires
 take-entries-requires c κs =
     let b = c .before .before .before .before .before .before .before .before .before .before .before .before .before in
     let a = b .args in
-    (taken-most (a .block .now) (c .before .before .before .entries-taken .ensures .0), b .pre .0, b .pre .2, c .before .before .before .entries-taken .ensures .1, b .pre .5 .0, b .pre .4)
+    (omega (arith, taken-most (a .block .now) (c .before .before .before .entries-taken .ensures .0)), b .pre .0, b .pre .2, c .before .before .before .entries-taken .ensures .1, b .pre .5 .0, b .pre .4)
 
 same-length : tie.Need-same-length
 same-length c = search needs

@@ -12,7 +12,7 @@ array-read-if1 c = search needs
 
 returns : tie.Need-returns
 unfolding plainly-within
-returns c = simp (lt-leb _ _ (c .if1 .taken))
+returns c = simp (lt-leb (getD (c .before .args .t1) 2 0) 0x44BB8000 (omega arith))
 
 array-read-if2 : tie.Need-array-read-if2
 array-read-if2 c = search needs

@@ -10,13 +10,13 @@ use Rattle.entry.proofs.put_words.Statement.{statement}
 use Rattle.entry.proofs.put_words.Tie as tie
 
 abbrev Inv-loop : tie.InvT-loop
-Inv-loop values₀ places words i₀ values i = (i ≤ length places) × (length values ≡ length values₀) × (worded (drop i places) (drop i words) values ≡ worded places words values₀)
+Inv-loop values₀ places words i₀ values i = (worded (drop i places) (drop i words) values ≡ worded places words values₀) × (i ≤ length places) × (length values ≡ length values₀)
 
 abbrev μ-loop : tie.MeasureT-loop
 μ-loop values₀ places words i₀ values i = length places - i
 
 loop-holds : tie.Need-loop-holds Inv-loop μ-loop
-loop-holds c = (omega arith, refl, refl)
+loop-holds c = (refl, omega arith, refl)
 
 mul-pair-to-usize : tie.Need-mul-pair-to-usize Inv-loop μ-loop
 mul-pair-to-usize c = search needs
@@ -39,7 +39,7 @@ put-word-requires : tie.Need-put-word-requires Inv-loop μ-loop
 put-word-requires c κs =
     let b = c .before .before .before .before .before .before .before .before .before in
     let l = c .before .before .before .before .before .loop in
-    omega (arith, c .before .pair-to-usize .ensures .0, l .inv .1, b .pre .inside (l .i) (omega arith))
+    omega (arith, c .before .pair-to-usize .ensures .0, l .inv .2, b .pre .inside (l .i) (omega arith))
 
 add-i : tie.Need-add-i Inv-loop μ-loop
 add-i c = search needs
@@ -52,19 +52,19 @@ loop-again c =
     let w = c .before .before .before in
     let l = w .before .before .before .before .before .loop in
     let b = w .before .before .before .before .before .before .before .before .before in (
+      words-turn (b .args .places .now) (b .args .words .now) (b .pre .alike) (l .i) (l .values) (omega arith) (w .before .pair-to-usize .ensures .0) refl (c .before .before .put-word .ensures) ∙ l .inv .0,
       omega arith,
-      c .before .before .put-word .kept .0 ∙ l .inv .1,
-      words-turn (b .args .places .now) (b .args .words .now) (b .pre .alike) (l .i) (l .values) (omega arith) (w .before .pair-to-usize .ensures .0) refl (c .before .before .put-word .ensures) ∙ l .inv .2,
+      c .before .before .put-word .kept .0 ∙ l .inv .2,
     )
 
 same-length : tie.Need-same-length Inv-loop μ-loop
-same-length c = c .before .loop .inv .1
+same-length c = c .before .loop .inv .2
 
 returns : tie.Need-returns Inv-loop μ-loop
 returns c =
     let b = c .before .before .before .before .before in
     let l = c .before .loop in
-    sym (words-end (b .args .places .now) (b .args .words .now) (b .pre .alike) (l .i) (l .values) (omega arith)) ∙ l .inv .2
+    sym (words-end (b .args .places .now) (b .args .words .now) (b .pre .alike) (l .i) (l .values) (omega arith)) ∙ l .inv .0
 
 pub put-words-spec : {M : Type 1} → statement M
 put-words-spec =

@@ -10,6 +10,9 @@ use Rattle.entry.proofs.store_entry.Tie as tie
 place-of-requires : tie.Need-place-of-requires
 place-of-requires c κs = search needs
 
+returns : tie.Need-returns
+returns c = let b = c .before .before .before .before .before .before .before in stored-is (at-row (b .args .row)) (b .args .values .now) (c .before .before .before .place-of .ensures) (b .args .value .now) (c .before .before .copy-at .ensures)
+
 copy-at-requires : tie.Need-copy-at-requires
 copy-at-requires c κs =
     let b = c .before .before .before .before in
@@ -18,9 +21,6 @@ copy-at-requires c κs =
 
 same-length : tie.Need-same-length
 same-length c = search needs
-
-returns : tie.Need-returns
-returns c = let b = c .before .before .before .before .before .before .before in stored-is (at-row (b .args .row)) (b .args .values .now) (c .before .before .before .place-of .ensures) (b .args .value .now) (c .before .before .copy-at .ensures)
 
 pub store-entry-spec : {M : Type 1} → statement M
 store-entry-spec = tie.close (tie.spec place-of-requires copy-at-requires same-length returns)

@@ -1,6 +1,5 @@
 -- `gauge::commit::commit`: each return is one law, given what the calls ensure. Assumes nothing.
 use borrow.Author.Needs.{needs}
-use Rattle.table.specs.Rows.{at-row}
 use Rattle.gauge.proofs.CommitLaws.{commit-refused, commit-accepted}
 use Rattle.gauge.proofs.commit.commit.Statement.{statement}
 use Rattle.gauge.proofs.commit.commit.Tie as tie
@@ -14,7 +13,7 @@ same-length c = search needs
 returns : tie.Need-returns
 returns c =
     let s = c .before .before .before .before .before .before in
-    commit-refused (s .args .values .now) (s .args .block .now) (at-row (s .args .row)) (s .args .bytes .now) (c .before .refusal .result) (c .before .refusal .ensures) (c .if1 .taken)
+    commit-refused (s .args .values .now) (s .args .block .now) (s .args .row) (s .args .bytes .now) (c .before .refusal .result) (c .before .refusal .ensures) (c .if1 .taken)
 
 put-requires : tie.Need-put-requires
 put-requires c κs = search needs
@@ -28,7 +27,7 @@ same-length-3 c = search needs
 returns-2 : tie.Need-returns-2
 returns-2 c =
     let s = c .before .before .before .before .before .before .before .before .before .before .before .before .before in
-    commit-accepted (s .args .values .now) (s .args .block .now) (at-row (s .args .row)) (s .args .bytes .now) (c .before .before .before .before .before .before .before .before .refusal .result) (c .before .before .before .before .before .before .before .before .refusal .ensures) (c .before .before .before .before .before .before .before .if1 .left) (c .before .before .before .before .put .ensures)
+    commit-accepted (s .args .values .now) (s .args .block .now) (s .args .row) (s .args .bytes .now) (c .before .before .before .before .before .before .before .before .refusal .result) (c .before .before .before .before .before .before .before .before .refusal .ensures) (c .before .before .before .before .before .before .before .if1 .left) (c .before .before .before .before .put .ensures)
 
 pub commit-spec : {M : Type 1} → statement M
 commit-spec =

@@ -12,7 +12,7 @@ refuses-requires c κs = search needs
 returns : tie.Need-returns
 returns c =
     let s = c .before .before .before .before in
-    lock-refuses (at-row (s .args .row)) (s .args .values .now) (s .args .bytes .now) (sym (c .before .refuses .ensures) ∙ c .if1 .taken)
+    lock-refuses (s .args .row) (s .args .values .now) (s .args .bytes .now) (sym (c .before .refuses .ensures) ∙ c .if1 .taken)
 
 judge-requires : tie.Need-judge-requires
 judge-requires c κs = let s = c .before .before .before .before .before in s .pre .3 ∙ card-length (s .args .row) (s .pre .1) (sym (s .pre .2) ∙ c .if2 .taken)
@@ -23,7 +23,7 @@ code-of-requires c κs = search needs
 returns-2 : tie.Need-returns-2
 returns-2 c =
     let s = c .before .before .before .before .before .before .before in
-    c .code-of .ensures ∙ limits-first (at-row (s .args .row)) (s .args .values .now) (s .args .bytes .now) (c .before .judge .result) (card-judged (at-row (s .args .row)) (s .args .values .now) (s .args .bytes .now) (sym (s .pre .2) ∙ c .before .before .if2 .taken) ∙ sym (c .before .judge .ensures)) (sym (c .before .before .before .before .refuses .ensures) ∙ c .before .before .before .if1 .left)
+    c .code-of .ensures ∙ limits-first (s .args .row) (s .args .values .now) (s .args .bytes .now) (c .before .judge .result) (card-judged (at-row (s .args .row)) (s .args .bytes .now) (sym (s .pre .2) ∙ c .before .before .if2 .taken) ∙ sym (c .before .judge .ensures)) (sym (c .before .before .before .before .refuses .ensures) ∙ c .before .before .before .if1 .left)
 
 judge-requires-2 : tie.Need-judge-requires-2
 judge-requires-2 c κs = search needs
@@ -34,7 +34,7 @@ code-of-requires-2 c κs = search needs
 returns-3 : tie.Need-returns-3
 returns-3 c =
     let s = c .before .before .before .before .before .before .before in
-    c .code-of2 .ensures ∙ limits-first (at-row (s .args .row)) (s .args .values .now) (s .args .bytes .now) (c .before .judge2 .result) (entry-judged (at-row (s .args .row)) (s .args .values .now) (s .args .bytes .now) (λ e. c .before .before .if2 .left (s .pre .2 ∙ e)) ∙ sym (c .before .judge2 .ensures)) (sym (c .before .before .before .before .refuses .ensures) ∙ c .before .before .before .if1 .left)
+    c .code-of2 .ensures ∙ limits-first (s .args .row) (s .args .values .now) (s .args .bytes .now) (c .before .judge2 .result) (entry-judged (at-row (s .args .row)) (s .args .bytes .now) (λ e. c .before .before .if2 .left (s .pre .2 ∙ e)) ∙ sym (c .before .judge2 .ensures)) (sym (c .before .before .before .before .refuses .ensures) ∙ c .before .before .before .if1 .left)
 
 pub refusal-spec : {M : Type 1} → statement M
 refusal-spec =

@@ -8,7 +8,6 @@ use borrow.Author.Needs.{needs}
 use Rattle.wire.proofs.SpliceLaws.{part-length}
 use Rattle.order.specs.Gauge.{tooLong, tooShort}
 use Rattle.order.specs.Talk.{partTaken}
-use Rattle.table.specs.Rows.{at-row}
 use Rattle.gauge.specs.Memory.{memory-of}
 use Rattle.gauge.specs.Whole.{commit-row}
 use Rattle.sdo.specs.Eight.{answerOf}
@@ -114,7 +113,7 @@ returns-3 c =
     let yes = c .before .before .before .before .before .before .before .before .before .before .before .before .before .before .before .before .before .before .part-taken in
     committed-told p v b o (answerOf (partTaken (t .toggle))) (grown t bytes)
     (concluded-told (memory-of v b) (t .row) (yes .result) _ _ p o _ (end .result) (end .ensures .0) (end .ensures .1) (c .answer-by .ensures)
-    ∙ ap₂ (λ (e : List ℕ) (g : Transfer). told-by p o (concluded (memory-of v b) (t .row) e (commit-row (at-row (t .row)) (take (t .len) (g .held)) (memory-of v b)))) (yes .ensures) (c .before .before .before .before .before .before .before .before .before .before .before .before .before .before .grown .ensures))
+    ∙ ap₂ (λ (e : List ℕ) (g : Transfer). told-by p o (concluded (memory-of v b) (t .row) e (commit-row (t .row) (take (t .len) (g .held)) (memory-of v b)))) (yes .ensures) (c .before .before .before .before .before .before .before .before .before .before .before .before .before .before .grown .ensures))
     ∙ ap (answered p v b o) (taken-whole t bytes (s .args .last) long (c .before .before .before .before .before .before .before .before .before .before .before .before .before .before .before .before .if2 .taken) full)
 
 put-part-requires : tie.Need-put-part-requires

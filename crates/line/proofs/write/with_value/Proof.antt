@@ -6,7 +6,6 @@ use native.Mathlib.Omega.{arith}
 use lib.ListN.{length, take, drop}
 use Rattle.wire.proofs.SpliceLaws.{part-length}
 use Rattle.order.specs.Talk.{writeOpened}
-use Rattle.table.specs.Rows.{at-row}
 use Rattle.gauge.specs.Memory.{memory-of}
 use Rattle.gauge.specs.Whole.{commit-row}
 use Rattle.sdo.specs.Eight.{answerOf}
@@ -69,7 +68,7 @@ returns c =
     let yes = c .before .write-opened in
     committed-told p v b o (answerOf (writeOpened (keyAt row))) (openedRecord Writes row (filled bytes) n)
     (concluded-told (memory-of v b) row (yes .result) _ _ p o _ (end .result) (end .ensures .0) (end .ensures .1) (c .answer-by .ensures)
-    ∙ ap₂ (λ (e bs : List ℕ). told-by p o (concluded (memory-of v b) row e (commit-row (at-row row) bs (memory-of v b)))) (yes .ensures ∙ ap (λ (k : Key). answerOf (writeOpened k)) (s .pre .1 .1)) (ap (λ (j : ℕ). take j (drop 4 m)) whole ∙ sym (filled-value bytes n long)))
+    ∙ ap₂ (λ (e bs : List ℕ). told-by p o (concluded (memory-of v b) row e (commit-row row bs (memory-of v b)))) (yes .ensures ∙ ap (λ (k : Key). answerOf (writeOpened k)) (s .pre .1 .1)) (ap (λ (j : ℕ). take j (drop 4 m)) whole ∙ sym (filled-value bytes n long)))
 
 pub with-value-spec : {M : Type 1} → statement M
 with-value-spec =
