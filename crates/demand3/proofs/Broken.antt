@@ -11,7 +11,7 @@ use Rattle.sdo.specs.Lines.{gauge}
 use Rattle.board.specs.Gauge.{bag552}
 use Rattle.demand3.specs.Firmware.{Exported, Back, observed, powered-store}
 use Rattle.demand3.specs.Open.{opened, observer-opened}
-use Rattle.demand3.proofs.Conversation.{Case, asks, expects, label-read, label-write}
+use Rattle.demand3.specs.Conversation.{Case, asks, expects, label-read, label-write}
 
 -- what a board answered, as the observer is given it, and the first line of demand 3 for it
 abbrev told : List Case → List (Exported × Back)

@@ -14,9 +14,9 @@ use Rattle.sdo.specs.Records.{recordCall}
 use Rattle.board.specs.Gauge.{bag552}
 use Rattle.demand3.specs.Firmware.{Exported, to-message, Back, back, history, observed, arrays-after, value-got, ReadOpened}
 use Rattle.demand3.specs.Open.{opened, observer-opened}
-use Rattle.demand3.proofs.Conversation.{Case, on, asks, powered}
-use Rattle.demand3.proofs.Examples.{case-J}
-use Rattle.demand3.proofs.CoatingShop.{old-pair, new-pair, saved-before, read-across-load, story}
+use Rattle.demand3.specs.Conversation.{Case, on, asks, powered}
+use Rattle.demand3.specs.Examples.{case-J}
+use Rattle.demand3.specs.CoatingShop.{old-pair, new-pair, saved-before, read-across-load, story}
 
 abbrev seen-in : List Case → List (Done (gauge bag552))
 seen-in cs = observed (history powered (map asks cs))

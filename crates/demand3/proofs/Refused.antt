@@ -8,7 +8,7 @@ use Rattle.board.specs.Calls.{Called}
 use Rattle.demand3.specs.Firmware.{Arrays}
 use Rattle.demand3.specs.Promised.{Given, Meets}
 use Rattle.demand3.specs.Open.{opened}
-use Rattle.demand3.proofs.Conversation.{Case, shown, powered, left-by, label-read, label-write}
+use Rattle.demand3.specs.Conversation.{Case, shown, powered, left-by, label-read, label-write}
 
 -- a message on line 0 to a board with these arrays
 abbrev given : Arrays → List ℕ → Given
