@@ -49,9 +49,13 @@ case-I =
     on 0 (0x23 ∷ 0xF4 ∷ 0xFB ∷ 0x01 ∷ 0x6C ∷ 0x6F ∷ 0x61 ∷ 0x64 ∷ []) (0x80 ∷ 0xF4 ∷ 0xFB ∷ 0x01 ∷ 0x22 ∷ 0x00 ∷ 0x00 ∷ 0x08 ∷ []) ∷
     []
 
--- line 0 has the first part of a zero label; line 1 writes 32 bytes of 41; line 0 still gets zeros, the next read gets 41s
+-- line 0 has the first part of a zero label; line 1 writes 32 bytes of 41; line 0 still gets zeros
+unfoldable pub label-changed : List Case
+label-changed = take 2 (label-read 0 0) ++ (label-write 1 0x41 ++ drop 2 (label-read 0 0))
+
+-- the next read gets 41s
 unfoldable pub case-J : List Case
-case-J = take 2 (label-read 0 0) ++ (label-write 1 0x41 ++ (drop 2 (label-read 0 0) ++ label-read 0 0x41))
+case-J = label-changed ++ label-read 0 0x41
 
 unfoldable pub cases : List (List Case)
 cases = case-A ∷ case-B ∷ case-C ∷ case-D ∷ case-E ∷ case-F ∷ case-G ∷ case-H ∷ case-I ∷ case-J ∷ []

@@ -4,3 +4,4 @@ pub mod Open
 pub mod Conversation
 pub mod Examples
 pub mod CoatingShop
+pub mod Refused
