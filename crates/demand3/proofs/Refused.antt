@@ -2,13 +2,13 @@
 use Prim.Native.Nat.{ℕ}
 use native.Mathlib.Omega.{arith}
 use mathlib.Core.Path.{_≡_, refl, sym, ap, ap₂, _∙_}
-use mathlib.Core.Bool.{true, false≢true, and-eq-true-iff}
+use mathlib.Core.Bool.{Bool, true, false, cond, false≢true, and-eq-true-iff}
 use mathlib.Core.List.{List, [], _∷_, _++_, map}
 use lib.Dec.{eqb}
 use lib.ListN.{take, drop, getD, replicate}
-use borrow.Author.Tests.{eqb-true}
+use borrow.Author.Tests.{eqb-true, eqb-false, ne-eqb}
 use Rattle.command.specs.Words.{same-bytes}
-use Rattle.board.specs.Calls.{Called}
+use Rattle.board.specs.Calls.{Called, called, message-call}
 use Rattle.demand3.specs.Firmware.{Arrays, arrays, Back, back, exported, history, final}
 use Rattle.demand3.specs.Promised.{Given, Meets}
 use Rattle.demand3.specs.Open.{opened}
@@ -126,3 +126,30 @@ faker-refused board fake fakes h =
     let letters : 0x41 ≡ getD (fake (unheld (part-of opened-after))) 1 0 =
     sym (ap (byte-of 1) (h (part-of opened-after))) ∙ sent opened-after (ap number-of (h (part-of opened-after))) in
     no-letter (letters ∙ ap (λ (i : Given). getD (fake i) 1 0) alike ∙ sym zeros)
+
+-- ---- no call that is refused by number refutes any of them: one board is all four, and keeps the promise wherever that gives another number than 0
+
+abbrev promised : Given → Called
+promised i = message-call (i .line) (i .message) (i .values) (i .block) (i .state) (i .room)
+
+abbrev wrong-answer : Given → Called
+wrong-answer i = called 0 (i .values) (i .block) (i .state) (replicate 8 0x80)
+
+unfoldable pub wrong : Given → Called
+wrong i = cond (eqb ((promised i) .number) 0) (wrong-answer i) (promised i)
+
+answers-wrong : (i : Given) → (wrong i) .number ≡ 0 → wrong i ≡ wrong-answer i
+unfolding wrong
+answers-wrong i = go (eqb ((promised i) .number) 0) refl
+  where
+    go : (d : Bool) → eqb ((promised i) .number) 0 ≡ d → (cond d (wrong-answer i) (promised i)) .number ≡ 0 → cond d (wrong-answer i) (promised i) ≡ wrong-answer i
+    go true e z = refl
+    go false e z = absurd (eqb-false _ _ e z)
+
+pub is-all-four : Aborts wrong × Sends (replicate 8 0x80) wrong × Forgets wrong × Fakes (λ i. replicate 8 0x80) wrong
+is-all-four =
+    ((λ i z. ap (byte-of 0) (answers-wrong i z)), (λ i z. ap eight-of (answers-wrong i z)), (λ i z. ap (λ (o : Called). o .values) (answers-wrong i z)), λ i z l m. ap eight-of (answers-wrong i z))
+
+pub keeps-refusals : (i : Given) → ((promised i) .number ≡ 0 → ⊥) → wrong i ≡ promised i
+unfolding wrong
+keeps-refusals i n = rw (ne-eqb ((promised i) .number) 0 n)
