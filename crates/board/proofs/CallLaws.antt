@@ -131,11 +131,11 @@ module _ (line : ℕ) (m v b s a : List ℕ) (on-line : line ≤ 1) (lent : Lent
 -- ---- gauge_power_up
 
 module _ (v b s : List ℕ) where
-  pub no-power : sized v b s ≡ false → powered 4 v b s ≡ power-up-call v b s
+  pub no-power : sized v b s ≡ false → powered 4 v s ≡ power-up-call v b s
   unfolding power-up-call
   no-power e = rw e
 
-  pub power-done : {v′ s′ : List ℕ} → sized v b s ≡ true → v′ ≡ fresh-values b → s′ ≡ dropped s → powered 0 v′ b s′ ≡ power-up-call v b s
+  pub power-done : {v′ s′ : List ℕ} → sized v b s ≡ true → v′ ≡ fresh-values b → s′ ≡ dropped s → powered 0 v′ s′ ≡ power-up-call v b s
   unfolding power-up-call
   power-done e ev es = rw (e, ev, es)
 

@@ -72,19 +72,18 @@ message-call line m values block state answer =
 
 -- ---- gauge_power_up
 
+-- the block is only looked at
 pub record Powered : Type 0 where
   pub number : ℕ
   pub values : List ℕ
-  pub block : List ℕ
   pub state : List ℕ
 
-abbrev pub powered : ℕ → List ℕ → List ℕ → List ℕ → Powered
-powered number values block state = record { number = number; values = values; block = block; state = state }
+abbrev pub powered : ℕ → List ℕ → List ℕ → Powered
+powered number values state = record { number = number; values = values; state = state }
 
 -- values from the block, records and trips as at power-up (R9.1 to R9.3)
 unfoldable pub power-up-call : List ℕ → List ℕ → List ℕ → Powered
-power-up-call values block state =
-    cond (sized values block state) (powered 0 (fresh-values block) block (dropped state)) (powered 4 values block state)
+power-up-call values block state = cond (sized values block state) (powered 0 (fresh-values block) (dropped state)) (powered 4 values state)
 
 -- ---- gauge_sample
 

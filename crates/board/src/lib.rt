@@ -73,8 +73,8 @@ pub extern "C" fn gauge_message(
 }
 
 #[no_mangle]
-pub extern "C" fn gauge_power_up(values: &mut [u8], block: &mut [u8], state: &mut [u8]) -> u32
-    ensures { λ r. ⌜ powered r (now (values .exit)) (now (block .exit)) (now (state .exit)) ≡ power-up-call (now (values .entry)) (now (block .entry)) (now (state .entry)) ⌝ }
+pub extern "C" fn gauge_power_up(values: &mut [u8], block: &[u8], state: &mut [u8]) -> u32
+    ensures { λ r. ⌜ powered r (now (values .exit)) (now (state .exit)) ≡ power-up-call (now (values .entry)) (now (block .entry)) (now (state .entry)) ⌝ }
 {
     if values.len() != 1024 {
         return 4;

@@ -274,7 +274,7 @@ unfolding real-rows
 good-is g ok = ok
 
 pub powered-good : (block : List ℕ) → length block ≡ 512 → GoodStore (powered-store block)
-powered-good block n = record { values-are = fresh-long block; block-is = n }
+powered-good block n = record { values-are = fresh-long _; block-is = n }
 
 -- THEOREM: demand 3 for the board with its records by value, for every list of messages and samples from power-up
 pub demand3-board : (block : List ℕ) → length block ≡ 512 → (cs : List (BoardCall bag552)) → Demand3Records bag552 (powered-store block) cs

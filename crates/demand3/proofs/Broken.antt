@@ -1,6 +1,5 @@
 -- BOARDS THAT DEMAND 3 REFUSES, whatever the promises of the single calls say: what the observer sees of them no plain gauge gives. Computed.
 use Prim.Native.Nat.{ℕ}
-use native.Mathlib.Omega.{arith}
 use mathlib.Core.Path.{_≡_, ap}
 use mathlib.Core.List.{List, _++_, map}
 use lib.ListN.{getD, replicate}
@@ -11,7 +10,8 @@ use Rattle.sdo.specs.Lines.{gauge}
 use Rattle.board.specs.Gauge.{bag552}
 use Rattle.demand3.specs.Firmware.{Exported, Back, observed, powered-store}
 use Rattle.demand3.specs.Open.{opened, observer-opened}
-use Rattle.demand3.proofs.Conversation.{Case, asks, expects, label-read, label-write}
+use Rattle.demand3.specs.Conversation.{Case, asks, expects, label-read}
+use Rattle.demand3.specs.Examples.{label-changed}
 
 -- what a board answered, as the observer is given it, and the first line of demand 3 for it
 abbrev told : List Case → List (Exported × Back)
@@ -30,19 +30,12 @@ first-byte taken = 0
 abbrev byte-of : ℕ → List Result → ℕ
 byte-of n rs = first-byte (getD rs n taken)
 
--- ONE THAT STORES NOTHING: after an accepted write of 41s it still shows zeros
-pub forgets : List Case
-forgets = label-write 1 0x41 ++ label-read 0 0
+-- ONE THAT STORES NOTHING: in case J its next read shows anything but the 41s that were written
+pub forgetful-not-plain : (x : ℕ) → (0x41 ≡ x → ⊥) → Plain (label-changed ++ label-read 0 x) → ⊥
+unfolding label-changed first-byte opened observer-opened
+forgetful-not-plain x other h = other (ap (byte-of 2) h)
 
-pub forgetful-not-plain : Plain forgets → ⊥
-unfolding forgets first-byte opened observer-opened
-forgetful-not-plain h =
-    let e : _≡_ {A = ℕ} 0x41 0 = ap (byte-of 1) h in
-    omega arith
-
--- ONE THAT SERVES THE OPENING AND FAKES THE LATER PARTS: the label is zeros, and whatever other byte it sends is no label's
-pub faker-not-plain : Plain (label-read 0 0x41) → ⊥
+-- ONE THAT SERVES THE OPENING AND FAKES THE LATER PARTS: the label is zeros, and it sends another byte
+pub faker-not-plain : (x : ℕ) → (0 ≡ x → ⊥) → Plain (label-read 0 x) → ⊥
 unfolding first-byte opened observer-opened
-faker-not-plain h =
-    let e : _≡_ {A = ℕ} 0 0x41 = ap (byte-of 0) h in
-    omega arith
+faker-not-plain x other h = other (ap (byte-of 0) h)

@@ -376,7 +376,7 @@ module _ (v b s : List ℕ) where
   unfolding power-up-call
   accepted e = go (sized v b s) e
     where
-      go : (d : Bool) → (cond d (powered 0 (fresh-values b) b (dropped s)) (powered 4 v b s)) .number ≡ 0 → d ≡ true
+      go : (d : Bool) → (cond d (powered 0 (fresh-values b) (dropped s)) (powered 4 v s)) .number ≡ 0 → d ≡ true
       go true q = refl
       go false q = absurd (omega arith)
 

@@ -1,5 +1,5 @@
 -- LENGTHS STAY: the values have 1,024 bytes and the block 512 after every whole write of a row's length, every sample and every power-up.
-use Prim.Native.Nat.{ℕ, _+_, _<_}
+use Prim.Native.Nat.{ℕ, _+_, _≤_, _<_}
 use native.Mathlib.Omega.{arith}
 use mathlib.Core.Path.{_≡_, refl, sym, _∙_}
 use mathlib.Core.Bool.{Bool, true, false, cond}
@@ -8,7 +8,8 @@ use mathlib.Core.Option.{Option, none, some}
 use lib.Dec.{leb, eqb}
 use lib.Ieee.{Float}
 use lib.ListN.{length, replicate}
-use borrow.Author.Tests.{eqb-false}
+use borrow.Author.Tests.{le-leb, leb-true, eqb-false}
+use Rattle.wire.specs.Splice.{splice}
 use Rattle.wire.specs.Little.{put-number}
 use Rattle.wire.proofs.SpliceLaws.{length-splice}
 use Rattle.wire.proofs.LittleLaws.{put-length}
@@ -41,6 +42,9 @@ Long l = length l ≡ 1024
 
 put-long : (l : List ℕ) (at n v : ℕ) → leb (at + n) 1024 ≡ true → Long l → Long (put-number l at n v)
 put-long l at n v h e = put-length l at n v (rw e h) ∙ e
+
+splice-long : (l : List ℕ) (at : ℕ) (xs : List ℕ) → leb (at + length xs) 1024 ≡ true → Long l → Long (splice l at xs)
+splice-long l at xs h e = let fits = leb-true (at + length xs) 1024 h in length-splice l at xs (rw e fits) ∙ e
 
 long-cond : (b : Bool) (x y : List ℕ) → Long x → Long y → Long (cond b x y)
 long-cond true x y h k = h
@@ -77,16 +81,22 @@ values-long l was p valid faults seconds e =
 
 -- ---- commands
 
+status-fits : (c : Command) → status-of c + 2 ≤ 1024
+unfolding status-of
+status-fits DeviceReset = omega arith
+status-fits ExceptionReset = omega arith
+status-fits StoreParameters = omega arith
+status-fits LoadParameters = omega arith
+
 status-long : (c : Command) (code : ℕ) (l : List ℕ) → Long l → Long (with-status c code l)
-unfolding with-status status-of
-status-long DeviceReset code l e = put-long _ 588 1 code refl (put-long l 587 1 code refl e)
-status-long ExceptionReset code l e = put-long _ 591 1 code refl (put-long l 590 1 code refl e)
-status-long StoreParameters code l e = put-long _ 594 1 code refl (put-long l 593 1 code refl e)
-status-long LoadParameters code l e = put-long _ 597 1 code refl (put-long l 596 1 code refl e)
+unfolding with-status
+status-long c code l e =
+    put-long _ (status-of c + 1) 1 code (le-leb (status-of c + 1 + 1) 1024 (omega (arith, status-fits c)))
+    (put-long l (status-of c) 1 code (le-leb (status-of c + 1) 1024 (omega (arith, status-fits c))) e)
 
 cleared-long : (l : List ℕ) → Long l → Long (exceptions-cleared l)
 unfolding exceptions-cleared
-cleared-long l e = summary-long _ (length-splice l latched-status (replicate 33 0) (rw e (omega arith)) ∙ e)
+cleared-long l e = summary-long _ (splice-long l latched-status _ refl e)
 
 pub fresh-long : (block : List ℕ) → length (fresh-values block) ≡ 1024
 unfolding fresh-values

@@ -1,4 +1,3 @@
-pub mod Conversation
 pub mod Examples
 pub mod Unique
 pub mod Refused

@@ -14,9 +14,9 @@ use Rattle.sdo.specs.Records.{recordCall}
 use Rattle.board.specs.Gauge.{bag552}
 use Rattle.demand3.specs.Firmware.{Exported, to-message, Back, back, history, observed, arrays-after, value-got, ReadOpened}
 use Rattle.demand3.specs.Open.{opened, observer-opened}
-use Rattle.demand3.proofs.Conversation.{Case, on, asks, powered}
-use Rattle.demand3.proofs.Examples.{case-J}
-use Rattle.demand3.proofs.CoatingShop.{old-pair, new-pair, saved-before, read-across-load, story}
+use Rattle.demand3.specs.Conversation.{Case, on, asks, powered}
+use Rattle.demand3.specs.Examples.{label-changed, case-J}
+use Rattle.demand3.specs.CoatingShop.{old-pair, new-pair, saved-before, read-across-load, story}
 
 abbrev seen-in : List Case → List (Done (gauge bag552))
 seen-in cs = observed (history powered (map asks cs))
@@ -38,7 +38,7 @@ got k bytes = (read k, gave bytes)
 
 -- the read that was opened first stands first, with the old label; then the write; then the read of the new one
 pub J-seen : seen-in case-J ≡ got label (replicate 32 0) ∷ did label (replicate 32 0x41) ∷ got label (replicate 32 0x41) ∷ []
-unfolding case-J opened observer-opened
+unfolding label-changed case-J opened observer-opened
 J-seen = refl
 
 -- the torn read of the card would be no value of any gauge: what is seen is the old pair before the load, the new pair after it

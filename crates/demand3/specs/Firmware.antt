@@ -1,6 +1,6 @@
 -- RULE: THE C FIRMWARE'S RUN, from power-up (R15.1): a list of calls on three lent arrays, each exactly what the exported call is held to (crate board,
 -- specs/Calls.antt). THE OBSERVER is given the calls and what they give back, and never the arrays. DEMAND 3 over both. Assumes nothing.
-use Prim.Native.Nat.{ℕ, zero, suc, _+_, _/_, _<_}
+use Prim.Native.Nat.{ℕ, _+_, _/_, _<_}
 use mathlib.Core.Path.{_≡_}
 use mathlib.Core.Bool.{Bool, false, cond}
 use mathlib.Core.List.{List, [], _∷_, map}
@@ -73,19 +73,18 @@ unfoldable pub final : Arrays → List Exported → Arrays
 final a [] = a
 final a (c ∷ cs) = final ((exported a c) .0) cs
 
--- the arrays that a power-up call leaves
-abbrev pub by-power-up : Powered → Arrays
-by-power-up p = arrays (p .values) (p .block) (p .state)
+-- the arrays after a power-up call, which cannot write the block
+abbrev pub by-power-up : List ℕ → Powered → Arrays
+by-power-up block p = arrays (p .values) block (p .state)
 
 unfoldable pub power-on : List ℕ → List ℕ → List ℕ → Arrays
-power-on values block state = by-power-up (power-up-call values block state)
+power-on values block state = by-power-up block (power-up-call values block state)
 
 -- ---- the observer's side
 
 -- R6.1
 unfoldable pub line-of : ℕ → Line
-line-of zero = tool
-line-of (suc n) = service
+line-of n = cond (eqb n 0) tool service
 
 -- 0: eight bytes (R13.7). 5: no answer (R13.8). Any other number is a refusal and no event
 unfoldable pub answer-by : Back → Option (List ℕ)

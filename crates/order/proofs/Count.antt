@@ -59,7 +59,7 @@ module _ (P : Gauge) where
   untouched form g x (openRead k) h = still-read-opening form g k (P .readWhole g k)
   untouched form g idle (nextPart u) h = refl
   untouched form g (reading k bytes p t) (nextPart u) h =
-      two (Bool·beq t u) (givePart P form g k bytes p t) (over P g (wrongToggle k)) (two (leb (length bytes) (p + form .size)) _ _ refl refl) refl
+      two (Bool·beq t u) (givePart P form g k bytes p t) _ (two (leb (length bytes) (p + form .size)) _ _ refl refl) refl
   untouched form g (writing k low high sent t) (nextPart u) h = refl
   untouched form g x (expedited k s bytes) h = still-conclude g k (writeOpened k) (writeWhole P g k s bytes) refl h
   untouched form g x (openWrite k n bytes) h = still-write-opening g k bytes (allowed P k (say n))

@@ -265,7 +265,9 @@ module _ (P : Gauge) where
     agrees-placed : (g g₁ g′ : P .Store) (d : Option (Done P)) (ds : List (Done P)) → Next g d g₁ → Agrees g₁ ds g′ → Agrees g (placed P d ds) g′
     unfolding Agrees placed
     agrees-placed g g₁ g′ none ds n q = subst (λ (x : P .Store). Agrees x ds g′) (sym n) q
-    agrees-placed g g₁ g′ (some d) ds n q = (n .0, subst (λ (x : P .Store). Agrees x ds g′) (sym (n .1)) q)
+    agrees-placed g g₁ g′ (some d) ds n q =
+        let first : Agrees g (d ∷ ds) g′ = (n .0, subst (λ (x : P .Store). Agrees x ds g′) (sym (n .1)) q) in
+        first
 
     agrees : (es : List (Event P W F)) (b : Board P W F) (os : Seens P W F) → Inv b os
         → Agrees (b .store) (observe P W F (trace P W F b es) os) ((run P W F b es) .store)

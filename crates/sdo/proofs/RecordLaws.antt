@@ -85,15 +85,18 @@ pub view-zero : view allZero ≡ idle
 unfolding view
 view-zero = refl
 
+-- what a record that was laid down stands for, as far as it counts
+said-back : (t : Transfer) (x : Pending Key) → Valid (t .row) x → pending ((lay t x) .direction) (lay t x) ≡ x
+unfolding lay pending
+said-back t idle v = refl
+said-back t (reading k bytes place u) v = rw (take-at bytes (drop (length bytes) (t .held)) (length bytes) refl, v .key-is)
+said-back t (writing k low high sent u) v = rw (take-at sent (drop (length sent) (t .held)) (length sent) refl, v .1 .key-is, v .0)
+
 pub view-lay : (t : Transfer) (x : Pending Key) → Valid (t .row) x → view (lay t x) ≡ x
-unfolding view lay counts pending
+unfolding view lay
 view-lay t idle v = refl
-view-lay t (reading k bytes place u) v =
-    let c = fits-counts (lay t (reading k bytes place u)) k v in
-    rw (c, take-at bytes (drop (length bytes) (t .held)) (length bytes) refl, v .key-is)
-view-lay t (writing k low high sent u) v =
-    let c = fits-counts (lay t (writing k low high sent u)) k (v .1) in
-    rw (c, take-at sent (drop (length sent) (t .held)) (length sent) refl, v .1 .key-is, v .0)
+view-lay t (reading k bytes place u) v = rw (fits-counts (lay t (reading k bytes place u)) k v) (said-back t (reading k bytes place u) v)
+view-lay t (writing k low high sent u) v = rw (fits-counts (lay t (writing k low high sent u)) k (v .1)) (said-back t (writing k low high sent u) v)
 
 -- a record's bytes are an array of 64
 abbrev pub Whole : Transfer → Type 0

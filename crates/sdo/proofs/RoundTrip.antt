@@ -33,7 +33,7 @@ round-opened k n (a ∷ b ∷ c ∷ d ∷ x ∷ bytes) e p q = absurd (omega ari
 round-by : (t last : Bool) (b : ℕ) (bytes : List ℕ) (rest : List ℕ) → b / 32 ≡ 0 → bit 16 b ≡ t → b / 2 % 8 ≡ 7 - length bytes → bit 1 b ≡ last → take (7 - (7 - length bytes)) rest ≡ bytes
     → tellOf (b ∷ rest) ≡ partGiven t bytes last
 unfolding tellOf
-round-by t last b bytes rest e₀ e₁ e₂ e₃ e₄ = rw (e₀, e₁, e₂, e₃, e₄)
+round-by t last b bytes rest e₀ e₁ e₂ e₃ e₄ = rw (e₀, e₁, e₂, e₄) (ap (partGiven t bytes) e₃)
 
 one-le : (t : Bool) → one t ≤ 1
 one-le true = omega arith

@@ -56,7 +56,7 @@ fn main() {
     let mut values = [0u8; 1024];
     let mut block = [0u8; 512];
     let mut state = [0u8; 256];
-    board::gauge_power_up(&mut values, &mut block, &mut state);
+    board::gauge_power_up(&mut values, &block, &mut state);
     let last = hear_all(&mut values, &mut block, &mut state);
     if hear::is_left(last) {
         serve::serve_line(last, &mut values, &mut block, &mut state);

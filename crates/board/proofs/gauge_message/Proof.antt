@@ -1,5 +1,6 @@
 -- `board::gauge_message`: each return is one law, given what the calls ensure. Assumes nothing.
 use mathlib.Core.Path.{_∙_}
+use native.Mathlib.Omega.{arith}
 use borrow.Author.Needs.{needs}
 use Rattle.board.proofs.CallLaws.{bad-values, bad-block, bad-state, all-sized, no-memory, no-line, no-room, no-message, is-served}
 use Rattle.board.proofs.gauge_message.Statement.{statement}
@@ -28,7 +29,7 @@ returns-4 c =
 returns-5 : tie.Need-returns-5
 returns-5 c =
     let s = c .before .before .before .before .before .before .before .before .before .before in
-    no-room (s .args .line) (s .args .message .now) (s .args .values .now) (s .args .block .now) (s .args .state .now) (s .args .answer .now) (all-sized (s .args .values .now) (s .args .block .now) (s .args .state .now) (c .before .before .before .before .if1 .left) (c .before .before .before .if2 .left) (c .before .before .if3 .left)) (c .before .if4 .left) (c .if5 .taken)
+    no-room (s .args .line) (s .args .message .now) (s .args .values .now) (s .args .block .now) (s .args .state .now) (s .args .answer .now) (all-sized (s .args .values .now) (s .args .block .now) (s .args .state .now) (c .before .before .before .before .if1 .left) (c .before .before .before .if2 .left) (c .before .before .if3 .left)) (c .before .if4 .left) (omega (arith, c .if5 .taken))
 
 returns-6 : tie.Need-returns-6
 returns-6 c =

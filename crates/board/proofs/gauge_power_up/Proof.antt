@@ -31,13 +31,10 @@ same-length c = search needs
 same-length-2 : tie.Need-same-length-2
 same-length-2 c = search needs
 
-same-length-3 : tie.Need-same-length-3
-same-length-3 c = search needs
-
 returns-4 : tie.Need-returns-4
 returns-4 c =
-    let s = c .before .before .before .before .before .before .before .before .before .before .before .before .before .before .before in
-    power-done (s .args .values .now) (s .args .block .now) (s .args .state .now) (all-sized (s .args .values .now) (s .args .block .now) (s .args .state .now) (c .before .before .before .before .before .before .before .before .before .before .before .if1 .left) (c .before .before .before .before .before .before .before .before .before .before .if2 .left) (c .before .before .before .before .before .before .before .before .before .if3 .left)) (c .before .before .before .before .before .before .fill .ensures) (c .before .before .drop-all .ensures)
+    let s = c .before .before .before .before .before .before .before .before .before .before .before .before .before .before in
+    power-done (s .args .values .now) (s .args .block .now) (s .args .state .now) (all-sized (s .args .values .now) (s .args .block .now) (s .args .state .now) (c .before .before .before .before .before .before .before .before .before .before .if1 .left) (c .before .before .before .before .before .before .before .before .before .if2 .left) (c .before .before .before .before .before .before .before .before .if3 .left)) (c .before .before .before .before .before .before .fill .ensures) (c .before .before .drop-all .ensures)
 
 pub gauge-power-up-spec : {M : Type 1} → statement M
 gauge-power-up-spec =
@@ -50,5 +47,4 @@ gauge-power-up-spec =
     drop-all-requires
     same-length
     same-length-2
-    same-length-3
     returns-4)

@@ -1,7 +1,7 @@
 -- `line::write::take_part`: each return is one law, given what the calls ensure. Assumes nothing.
 use mathlib.Core.List.{List}
 use mathlib.Core.Path.{_≡_, refl, sym, ap, ap₂, _∙_}
-use Prim.Native.Nat.{ℕ, _+_}
+use Prim.Native.Nat.{ℕ, _+_, _<_}
 use native.Mathlib.Omega.{arith}
 use lib.ListN.{length, take, drop}
 use borrow.Author.Needs.{needs}
@@ -45,7 +45,9 @@ returns c =
     let t = s .args .t in
     let bytes = take (s .args .count) (drop 1 (s .args .m .now)) in
     let long = part-length (s .args .m .now) 1 (s .args .count) (omega (arith, s .pre .1 .0, s .pre .1 .1)) in
-    told-as p v b o (refusal (t .row) tooLong) refl (refused-row p o (t .row) tooLong (c .before .before .before .key-at .ensures) (c .before .before .refused .ensures)) (taken-long t bytes (s .args .last) long (c .before .before .before .before .before .if1 .taken))
+    let h = committed-most (t .row) (s .pre .2) (s .pre .3) in
+    let over : t .len < t .place + s .args .count = omega (arith, h, c .before .before .before .before .before .if1 .taken) in
+    told-as p v b o (refusal (t .row) tooLong) refl (refused-row p o (t .row) tooLong (c .before .before .before .key-at .ensures) (c .before .before .refused .ensures)) (taken-long t bytes (s .args .last) long over)
 
 add-if3 : tie.Need-add-if3
 add-if3 c = search needs

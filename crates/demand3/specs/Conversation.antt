@@ -1,4 +1,4 @@
--- Conversations over the exported calls, each from power-up on a zero block: what is sent on which line, and the answer. Assumes nothing.
+-- CONVERSATIONS over the exported calls, from power-up on a zero block: what is sent on which line, and the answer. Assumes nothing.
 use Prim.Native.Nat.{ℕ, _-_}
 use mathlib.Core.List.{List, [], _∷_, _++_, map}
 use lib.ListN.{length, take, drop, replicate}
@@ -27,8 +27,12 @@ expects c = back 0 (shown (c .answer))
 abbrev pub powered : Arrays
 powered = power-on (replicate 1024 0xFF) (replicate 512 0) (replicate 256 0xFF)
 
+-- what the board gives back, and what it must give back
+abbrev pub gives-from : Arrays → List Case → List Back
+gives-from a cs = map (λ (p : Exported × Back). p .1) (history a (map asks cs))
+
 abbrev pub gives : List Case → List Back
-gives cs = map (λ (p : Exported × Back). p .1) (history powered (map asks cs))
+gives cs = gives-from powered cs
 
 abbrev pub expected : List Case → List Back
 expected cs = map expects cs
