@@ -203,6 +203,10 @@ rows =
 abbrev pub row-count : ℕ
 row-count = %d
 
+-- the row of 2003:00, the setup lock
+abbrev pub lock-row : ℕ
+lock-row = %d
+
 -- the row with a number; past the end a row of zeros
 abbrev pub at-row : ℕ → Row
 at-row r = getD rows r no-row
@@ -213,7 +217,7 @@ nv-count = %d
 
 abbrev pub nv-end : ℕ
 nv-end = %d
-""" % (len(rows), len(nv_rows(rows)), block_end(rows)))
+""" % (len(rows), [key(row) for row in rows].index(0x200300), len(nv_rows(rows)), block_end(rows)))
     return "".join(lines)
 
 

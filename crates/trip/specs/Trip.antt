@@ -1,5 +1,5 @@
 -- The sides of a trip point, one sample on (document 01, "Samples, trips and words").
-use mathlib.Core.Bool.{Bool, true, false, cond, not, _&&_}
+use mathlib.Core.Bool.{Bool, true, false, cond, not, _&&_, _||_}
 use Prim.Native.Nat.{ℕ}
 use lib.Dec.{eqb}
 use lib.Ieee.{Float, nan, inf, fin, binary32, ofBits, lt, add, sub}
@@ -45,6 +45,10 @@ pick-on false a b = b
 -- a sample that is not valid: "both trips are off"
 unfoldable pub point-after : Point → On → Float → ℕ → On
 point-after point was p valid = pick-on (usable-pressure p valid) (point-next point was p) off
+
+-- the output of a trip point is on if either side is
+unfoldable pub output : On → Bool
+output on = on .high || on .low
 
 -- "trips off": both points
 abbrev pub all-off : Trips
