@@ -40,10 +40,13 @@ PLACES = [
 # rows that the code knows by name
 ROWS = [("device-reset", 0xFBF0, 0x01), ("exception-reset", 0xFBF1, 0x01), ("store-parameters", 0xFBF2, 0x01), ("load-parameters", 0xFBF4, 0x01)]
 
-# a command's response stands behind its status
-RESPONSES = [
-    ("reset-status", 0xFBF0, 0x03), ("exception-status", 0xFBF1, 0x03), ("store-status", 0xFBF2, 0x03),
-    ("load-status", 0xFBF4, 0x03)]
+# entries that stand one byte behind another: a trip point's low side behind its high one, a command's response behind its status
+BEHIND = [
+    ("status-1", 0x600E, 0x02), ("status-2", 0x600F, 0x02), ("reset-status", 0xFBF0, 0x03), ("exception-status", 0xFBF1, 0x03),
+    ("store-status", 0xFBF2, 0x03), ("load-status", 0xFBF4, 0x03)]
+
+# the first and the last index of what an exception reset clears
+LATCHED = (0xF390, 0xF398)
 
 # a trip point's settings, counted from the first of them: the same in 800E and 800F
 SETTINGS = [
@@ -200,6 +203,10 @@ rows =
 abbrev pub row-count : ℕ
 row-count = %d
 
+-- the row of 2003:00, the setup lock
+abbrev pub lock-row : ℕ
+lock-row = %d
+
 -- the row with a number; past the end a row of zeros
 abbrev pub at-row : ℕ → Row
 at-row r = getD rows r no-row
@@ -210,7 +217,7 @@ nv-count = %d
 
 abbrev pub nv-end : ℕ
 nv-end = %d
-""" % (len(rows), len(nv_rows(rows)), block_end(rows)))
+""" % (len(rows), [key(row) for row in rows].index(0x200300), len(nv_rows(rows)), block_end(rows)))
     return "".join(lines)
 
 
@@ -223,14 +230,19 @@ def places(rows):
         if offset != at[0x800F, sub] - at[0x800F, 0x01]:
             sys.exit("the settings of the two trip points are laid out differently")
         named.append((name, offset, "800E:%02X and 800F:%02X, counted from subindex 01" % (sub, sub)))
-    return named
+    size = sum(held(row) for row in rows if LATCHED[0] <= row["index"] <= LATCHED[1])
+    return named + [("latched-size", size, "the bytes of %04X to %04X, which stand behind each other from %04X:00 on" % (*LATCHED, LATCHED[0]))]
 
 
 def places_antt(rows):
     text = """-- RULE: the places in the values that have names. tools/table.py writes this file; that they are the table's is computed in
 -- proofs/Placed.antt. Assumes nothing.
 use Prim.Native.Nat.{ℕ, _+_}
+use mathlib.Core.Bool.{Bool}
 use mathlib.Core.List.{List, [], _∷_}
+use lib.Dec.{leb}
+use Rattle.table.specs.Row.{Row}
+use Rattle.table.specs.Walk.{both}
 """
     for name, number, what in places(rows):
         text += "\n-- %s\nabbrev pub %s : ℕ\n%s = %d\n" % (what, name, name, number)
@@ -251,12 +263,17 @@ named-places =
     length = {(row["index"], row["sub"]): row["len"] for row in rows}
     for name, index, sub in PLACES:
         text += "    placed 0x%04X 0x%02X %s %d ∷\n" % (index, sub, name, length[index, sub])
-    for name, index, sub in RESPONSES:
+    for name, index, sub in BEHIND:
         text += "    placed 0x%04X 0x%02X (%s + 1) %d ∷\n" % (index, sub, name, length[index, sub])
     for first, index in (("settings-1", 0x800E), ("settings-2", 0x800F)):
         for name, sub in SETTINGS:
             text += "    placed 0x%04X 0x%02X (%s + %s) %d ∷\n" % (index, sub, first, name, length[index, sub])
-    return text + "    []\n"
+    return text + """    []
+
+-- what an exception reset clears: every subindex of these indices
+unfoldable pub latched : Row → Bool
+latched r = both (leb 0x%04X (r .index)) (leb (r .index) 0x%04X)
+""" % LATCHED
 
 
 def place_rt(rows):

@@ -4,8 +4,8 @@ use mathlib.Core.List.{List}
 use Prim.Native.Nat.{ℕ}
 use lib.ListN.{replicate}
 use Rattle.wire.specs.Splice.{splice}
-use Rattle.table.specs.Places.{latched-status}
+use Rattle.table.specs.Places.{latched-status, latched-size}
 use Rattle.sample.specs.Faults.{with-summary}
 
 unfoldable pub exceptions-cleared : List ℕ → List ℕ
-exceptions-cleared values = with-summary (splice values latched-status (replicate 33 0))
+exceptions-cleared values = with-summary (splice values latched-status (replicate latched-size 0))

@@ -9,7 +9,13 @@ pub fn clear_latched(values: &mut [u8])
     requires { ⌜ length (now values) ≡ 1024 ⌝ }
     ensures { λ _. ⌜ now (values .exit) ≡ exceptions-cleared (now (values .entry)) ⌝ }
 {
-    let zeros = [0u8; 33];
-    wire::copy_at(values, place::LATCHED_STATUS, &zeros, 0, 33);
+    let zeros = [0u8; place::LATCHED_SIZE];
+    wire::copy_at(
+        values,
+        place::LATCHED_STATUS,
+        &zeros,
+        0,
+        place::LATCHED_SIZE,
+    );
     sample::put_summary(values, wire::word_at(values, place::ACTIVE_WORD));
 }

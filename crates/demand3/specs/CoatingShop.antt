@@ -1,4 +1,4 @@
--- THE COATING SHOP'S STORY as a conversation: a load on line 1 between the parts of a card read on line 0. Assumes nothing.
+-- RULE: THE COATING SHOP'S STORY as a conversation: a load on line 1 between the parts of a card read on line 0. Assumes nothing.
 use mathlib.Core.List.{List, [], _∷_, _++_}
 use Prim.Native.Nat.{ℕ}
 use lib.ListN.{take, drop}

@@ -1,10 +1,10 @@
--- CONVERSATIONS over the exported calls, from power-up on a zero block: what is sent on which line, and the answer. Assumes nothing.
+-- RULE: CONVERSATIONS over the exported calls, from power-up on a zero block: what is sent on which line, and the answer. Assumes nothing.
 use Prim.Native.Nat.{ℕ, _-_}
 use mathlib.Core.List.{List, [], _∷_, _++_, map}
 use lib.ListN.{length, take, drop, replicate}
 use Rattle.demand3.specs.Firmware.{Arrays, Exported, to-message, Back, back, history, final, power-on}
 
--- eight bytes: "Bytes not shown are zero"
+-- eight bytes; those that are not shown are zero
 abbrev pub shown : List ℕ → List ℕ
 shown bytes = bytes ++ replicate (8 - length bytes) 0
 
@@ -23,7 +23,7 @@ asks c = to-message (c .line) (shown (c .message)) (replicate 8 0xEE)
 abbrev pub expects : Case → Back
 expects c = back 0 (shown (c .answer))
 
--- "whatever they held": values and state of FF bytes before power-up
+-- values and state of FF bytes before power-up, whatever they held (R9.3)
 abbrev pub powered : Arrays
 powered = power-on (replicate 1024 0xFF) (replicate 512 0) (replicate 256 0xFF)
 

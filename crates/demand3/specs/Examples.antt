@@ -1,4 +1,4 @@
--- THE EXAMPLES A TO J as conversations, each from power-up. Assumes nothing.
+-- RULE: THE EXAMPLES A TO J of docs/RULES.md as conversations, each from power-up. Assumes nothing.
 use mathlib.Core.List.{List, [], _∷_, _++_}
 use lib.ListN.{take, drop}
 use Rattle.demand3.specs.Conversation.{Case, on, label-read, label-write}

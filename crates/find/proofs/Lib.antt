@@ -1,3 +1,4 @@
 pub mod Shapes
 pub mod ColumnLaws
 pub mod Way
+pub mod AreaLaws

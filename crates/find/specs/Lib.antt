@@ -1,3 +1,4 @@
 pub mod Pairs
 pub mod Columns
 pub mod Search
+pub mod Areas

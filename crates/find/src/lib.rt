@@ -1,4 +1,5 @@
 // The object table in the code: its columns, a row's fields by the row's number, and the way to a row.
+mod area;
 pub mod columns;
 pub mod field;
 mod page;
@@ -6,7 +7,7 @@ mod page;
 use table::Found;
 use wire::wide;
 ghost use mathlib.Core.Path.{_≡_};
-ghost use Prim.Native.Nat.{_+_, _/_, _≤_};
+ghost use Prim.Native.Nat.{_+_, _/_, _<_, _≤_};
 ghost use lib.Dec.{eqb};
 ghost use Rattle.table.specs.Rows.{at-row};
 ghost use Rattle.table.specs.Rule.{key as row-key};
@@ -167,17 +168,13 @@ fn find_first(key: u32) -> Sought
     Sought::NoIndex
 }
 
-fn find_key(key: u32) -> Sought
+// The area is asked for on each side of row 63, where the compiler sees which areas are in reach.
+fn find_lower(key: u32) -> Sought
+    requires { ⌜ key ≤ row-key (at-row 63) ⌝ }
     ensures { λ r. ⌜ r ≡ with-shape (find-key key) ⌝ }
 {
-    if columns::KEY_63 < key {
-        if columns::KEY_127 < key {
-            return find_from_128(key);
-        }
-        if columns::KEY_95 < key {
-            return find_from_96(key);
-        }
-        return find_from_64(key);
+    if area::is_empty(key / 256) {
+        return Sought::NoIndex;
     }
     if columns::KEY_31 < key {
         return find_from_32(key);
@@ -186,6 +183,31 @@ fn find_key(key: u32) -> Sought
         return find_from_0(key);
     }
     find_first(key)
+}
+
+fn find_upper(key: u32) -> Sought
+    requires { ⌜ row-key (at-row 63) < key ⌝ }
+    ensures { λ r. ⌜ r ≡ with-shape (find-key key) ⌝ }
+{
+    if area::is_empty(key / 256) {
+        return Sought::NoIndex;
+    }
+    if columns::KEY_127 < key {
+        return find_from_128(key);
+    }
+    if columns::KEY_95 < key {
+        return find_from_96(key);
+    }
+    find_from_64(key)
+}
+
+fn find_key(key: u32) -> Sought
+    ensures { λ r. ⌜ r ≡ with-shape (find-key key) ⌝ }
+{
+    if columns::KEY_63 < key {
+        return find_upper(key);
+    }
+    find_lower(key)
 }
 
 // The row with the index and subindex, and its shape, or which of the two is absent.

@@ -22,7 +22,7 @@ use Rattle.table.specs.Walk.{every}
 use Rattle.table.specs.Find.{find-row}
 use Rattle.table.proofs.Walks.{every-at}
 use Rattle.table.proofs.Table.{rows-length, lock-found}
-use Rattle.table.specs.Places.{latched-status, summary-byte}
+use Rattle.table.specs.Places.{latched-status, latched-size, latched, summary-byte}
 use Rattle.entry.specs.Limits.{verdict-code}
 use Rattle.entry.specs.Entry.{entry-of}
 use Rattle.entry.specs.Entry as entry
@@ -122,7 +122,7 @@ card-write-read k there card bytes small m n long size e =
 -- the entries that document 01 names for a command: its own status and response; "the latched words" and the summary; the NV entries
 unfoldable pub named : Command → Row → Bool
 named DeviceReset r = eqb (r .index) 0xFBF0
-named ExceptionReset r = eqb (r .index) 0xFBF1 || (eqb (r .index) 0xF380 || (leb 0xF390 (r .index) && leb (r .index) 0xF398))
+named ExceptionReset r = eqb (r .index) 0xFBF1 || (eqb (r .index) 0xF380 || latched r)
 named StoreParameters r = eqb (r .index) 0xFBF2
 named LoadParameters r = eqb (r .index) 0xFBF4 || eqb (r .nv) 1
 
@@ -138,25 +138,25 @@ module _ (c : Command) (at n : ℕ) (pass : T (every (spared c at n) rows)) wher
       (rw size (is-true _ (rw e at (every-at (spared c at n) rows no-row pass j (omega (arith, rows-length))))))
 
 status-spared : (c : Command) → T (every (spared c (status-of c) 1) rows)
-unfolding rows every spared named pick held status-of
+unfolding rows every spared named latched pick held status-of
 status-spared DeviceReset = tt
 status-spared ExceptionReset = tt
 status-spared StoreParameters = tt
 status-spared LoadParameters = tt
 
 response-spared : (c : Command) → T (every (spared c (status-of c + 1) 1) rows)
-unfolding rows every spared named pick held status-of
+unfolding rows every spared named latched pick held status-of
 response-spared DeviceReset = tt
 response-spared ExceptionReset = tt
 response-spared StoreParameters = tt
 response-spared LoadParameters = tt
 
-latched-spared : T (every (spared ExceptionReset latched-status 33) rows)
-unfolding rows every spared named pick held
+latched-spared : T (every (spared ExceptionReset latched-status latched-size) rows)
+unfolding rows every spared named latched pick held
 latched-spared = tt
 
 summary-spared : T (every (spared ExceptionReset summary-byte 1) rows)
-unfolding rows every spared named pick held
+unfolding rows every spared named latched pick held
 summary-spared = tt
 
 -- status and response byte 0 are no other row's
@@ -182,8 +182,8 @@ module _ (c : Command) (code : ℕ) (values : List ℕ) (long : length values �
       ∙ spare c (status-of c) 1 (status-spared c) values (little 1 code) (le-leb (status-of c) (length values) (omega (arith, inside-values))) (length-little 1 code) j h e
 
 module _ (values : List ℕ) (long : length values ≡ 1024) where
-  latched-length : length (splice values latched-status (replicate 33 0)) ≡ 1024
-  latched-length = splice-length values latched-status (replicate 33 0) (rw long) ∙ long
+  latched-length : length (splice values latched-status (replicate latched-size 0)) ≡ 1024
+  latched-length = splice-length values latched-status (replicate latched-size 0) (rw long) ∙ long
 
   cleared-length : length (exceptions-cleared values) ≡ 1024
   unfolding exceptions-cleared with-summary
@@ -193,7 +193,7 @@ module _ (values : List ℕ) (long : length values ≡ 1024) where
   unfolding exceptions-cleared with-summary
   cleared-leaves j h e =
       spare ExceptionReset summary-byte 1 summary-spared _ (little 1 _) (rw latched-length) (length-little 1 _) j h e
-      ∙ spare ExceptionReset latched-status 33 latched-spared values (replicate 33 0) (rw long) refl j h e
+      ∙ spare ExceptionReset latched-status latched-size latched-spared values (replicate latched-size 0) (rw long) refl j h e
 
 -- a command other than device reset leaves every entry that is not named for it; device reset is power-up
 module _ (m : Memory) (long : length (m .values) ≡ 1024) (j : ℕ) (there : j < row-count) where

@@ -1,5 +1,5 @@
 -- What stands where after a sample, one law for each fact. Assumes nothing.
-use mathlib.Core.Bool.{Bool, true, false, cond, _&&_, and-eq-true-iff}
+use mathlib.Core.Bool.{Bool, true, false, cond, _&&_, _||_, and-eq-true-iff}
 use mathlib.Core.Path.{_≡_, refl, sym, ap, ap₂, _∙_, subst}
 use mathlib.Core.List.{List, [], _∷_}
 use Prim.Native.Nat.{ℕ, _+_, _*_, _/_, _%_, _^_, _<_}
@@ -16,8 +16,8 @@ use Rattle.wire.proofs.LittleLaws.{Bytes, from-little, number-lt}
 use Rattle.wire.proofs.FlagLaws.{by-test, bit-lt, set-back}
 use Rattle.wire.proofs.Writes.{Write, write, written, within, tidy, shown, number-shown}
 use Rattle.trip.specs.declared.Trips.{Trips}
-use Rattle.trip.specs.Trip.{off, usable-pressure, point-after, all-off}
-use Rattle.table.specs.Places.{input-value, trip-input-1, trip-input-2, reading-valid, status-1, status-2, trip-outputs, settings-1, settings-2, sensor-error, active-word, latched-word, summary-byte, power-on-time}
+use Rattle.trip.specs.Trip.{off, usable-pressure, point-after, output, all-off}
+use Rattle.table.specs.Places.{input-value, trip-input-1, trip-input-2, reading-valid, status-1, status-2, trip-outputs, settings-1, settings-2, high-enable, low-enable, high-level, low-level, high-hysteresis, low-hysteresis, sensor-error, active-word, latched-word, summary-byte, power-on-time}
 use Rattle.sample.specs.Faults.{kept, with-faults, summary-of, with-summary}
 use Rattle.sample.specs.Sample.{settings, trips-next, trips-after, with-pressure, with-none, with-reading, trip-word, with-trips, values-after}
 
@@ -49,6 +49,29 @@ four-fits false = omega arith
 word-lt : (t : Trips) → trip-word t < 2 ^ (8 * 4)
 unfolding trip-word
 word-lt t = omega (arith, bit-lt (t .one .high), bit-lt (t .one .low), bit-lt (t .two .high), bit-lt (t .two .low))
+
+-- ---- the outputs in the word of F641
+
+-- is bit n of a number set?
+abbrev pub set-in : ℕ → ℕ → Bool
+set-in w n = eqb (w / 2 ^ n % 2) 1
+
+told : (w n : ℕ) (b : Bool) → w / 2 ^ n % 2 ≡ bit b → set-in w n ≡ b
+told w n true e = rw e
+told w n false e = rw e
+
+-- each point's output is the or of its two bits
+word-outputs : (t : Trips) → (output (t .one) ≡ set-in (trip-word t) 0 || set-in (trip-word t) 1) × (output (t .two) ≡ set-in (trip-word t) 2 || set-in (trip-word t) 3)
+unfolding output trip-word
+word-outputs t =
+    let w = trip-word t in
+    let a = bit-lt (t .one .high) in
+    let b = bit-lt (t .one .low) in
+    let c = bit-lt (t .two .high) in
+    let d = bit-lt (t .two .low) in (
+      sym (ap₂ _||_ (told w 0 (t .one .high) (omega arith)) (told w 1 (t .one .low) (omega arith))),
+      sym (ap₂ _||_ (told w 2 (t .two .high) (omega arith)) (told w 3 (t .two .low) (omega arith))),
+    )
 
 -- ---- a sample by whether its pressure is usable
 
@@ -222,6 +245,21 @@ module _ (l : List ℕ) (was : Trips) (p : Float) (valid faults seconds : ℕ) (
   pub low-2-shown : is-set (values-after l was p valid faults seconds) (status-2 + 1) ≡ trips-after l was p valid .two .low
   low-2-shown = set-back _ (status-2 + 1) _ (number-after (status-2 + 1) 1 _ refl refl refl)
 
+  -- a point's output is the or of its two status entries, and of its two bits of F641
+  pub output-1-by-status : output (trips-after l was p valid .one) ≡ is-set (values-after l was p valid faults seconds) status-1 || is-set (values-after l was p valid faults seconds) (status-1 + 1)
+  unfolding output
+  output-1-by-status = rw (high-1-shown, low-1-shown)
+
+  pub output-2-by-status : output (trips-after l was p valid .two) ≡ is-set (values-after l was p valid faults seconds) status-2 || is-set (values-after l was p valid faults seconds) (status-2 + 1)
+  unfolding output
+  output-2-by-status = rw (high-2-shown, low-2-shown)
+
+  pub output-1-by-word : output (trips-after l was p valid .one) ≡ set-in (number (values-after l was p valid faults seconds) trip-outputs 4) 0 || set-in (number (values-after l was p valid faults seconds) trip-outputs 4) 1
+  output-1-by-word = rw outputs-shown (word-outputs (trips-after l was p valid) .0)
+
+  pub output-2-by-word : output (trips-after l was p valid .two) ≡ set-in (number (values-after l was p valid faults seconds) trip-outputs 4) 2 || set-in (number (values-after l was p valid faults seconds) trip-outputs 4) 3
+  output-2-by-word = rw outputs-shown (word-outputs (trips-after l was p valid) .1)
+
   -- ---- the settings stay
 
   stays : (q n : ℕ) → fine l was p valid all-writes q n ≡ true → shown (steps l was p valid true all-writes) q n (number l q n) ≡ number l q n → shown (steps l was p valid false all-writes) q n (number l q n) ≡ number l q n → number (values-after l was p valid faults seconds) q n ≡ number l q n
@@ -229,8 +267,24 @@ module _ (l : List ℕ) (was : Trips) (p : Float) (valid faults seconds : ℕ) (
 
   pub settings-1-stay : settings (values-after l was p valid faults seconds) settings-1 ≡ settings l settings-1
   unfolding settings real is-set
-  settings-1-stay = rw (stays 258 1 refl refl refl, stays 259 1 refl refl refl, stays 260 4 refl refl refl, stays 272 4 refl refl refl, stays 284 4 refl refl refl, stays 288 4 refl refl refl)
+  settings-1-stay =
+      rw (
+        stays (settings-1 + high-enable) 1 refl refl refl,
+        stays (settings-1 + low-enable) 1 refl refl refl,
+        stays (settings-1 + high-level) 4 refl refl refl,
+        stays (settings-1 + low-level) 4 refl refl refl,
+        stays (settings-1 + high-hysteresis) 4 refl refl refl,
+        stays (settings-1 + low-hysteresis) 4 refl refl refl,
+      )
 
   pub settings-2-stay : settings (values-after l was p valid faults seconds) settings-2 ≡ settings l settings-2
   unfolding settings real is-set
-  settings-2-stay = rw (stays 296 1 refl refl refl, stays 297 1 refl refl refl, stays 298 4 refl refl refl, stays 310 4 refl refl refl, stays 322 4 refl refl refl, stays 326 4 refl refl refl)
+  settings-2-stay =
+      rw (
+        stays (settings-2 + high-enable) 1 refl refl refl,
+        stays (settings-2 + low-enable) 1 refl refl refl,
+        stays (settings-2 + high-level) 4 refl refl refl,
+        stays (settings-2 + low-level) 4 refl refl refl,
+        stays (settings-2 + high-hysteresis) 4 refl refl refl,
+        stays (settings-2 + low-hysteresis) 4 refl refl refl,
+      )

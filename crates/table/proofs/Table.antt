@@ -8,7 +8,7 @@ use lib.Dec.{T}
 use lib.ListN.{length}
 use borrow.Author.Tests.{lt-leb}
 use Rattle.table.specs.Row.{CARD}
-use Rattle.table.specs.Rows.{rows, row-count, at-row}
+use Rattle.table.specs.Rows.{rows, row-count, lock-row, at-row}
 use Rattle.table.specs.Walk.{all, every, linked, chain}
 use Rattle.table.specs.Rule.{pick, key, held, block-bits, block-sum, is-number, real-rank, rank, finite, width-of, row-tests, row-ok, next-ok, table-ok}
 use Rattle.table.specs.Find.{find-from, find-row}
@@ -90,7 +90,7 @@ row-found i s r k = go (find-row i s) refl
     go NoSub e = absurd (find-no-sub i s e r l (k .index-is) (k .sub-is))
 
 -- document 01's examples A, D and E: the lock has a row, its subindex 01 has none, index 2004 has none
-pub lock-found : find-row 0x2003 0 ≡ At 30
+pub lock-found : find-row 0x2003 0 ≡ At lock-row
 unfolding find-row find-from rows
 lock-found = refl
 

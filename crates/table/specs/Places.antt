@@ -1,7 +1,11 @@
 -- RULE: the places in the values that have names. tools/table.py writes this file; that they are the table's is computed in
 -- proofs/Placed.antt. Assumes nothing.
 use Prim.Native.Nat.{ℕ, _+_}
+use mathlib.Core.Bool.{Bool}
 use mathlib.Core.List.{List, [], _∷_}
+use lib.Dec.{leb}
+use Rattle.table.specs.Row.{Row}
+use Rattle.table.specs.Walk.{both}
 
 -- 2003:00
 abbrev pub lock : ℕ
@@ -115,6 +119,10 @@ high-hysteresis = 26
 abbrev pub low-hysteresis : ℕ
 low-hysteresis = 30
 
+-- the bytes of F390 to F398, which stand behind each other from F390:00 on
+abbrev pub latched-size : ℕ
+latched-size = 33
+
 -- an entry, its place and its length
 pub record Placed : Type 0 where
   pub index : ℕ
@@ -149,6 +157,8 @@ named-places =
     placed 0xFBF1 0x02 exception-status 1 ∷
     placed 0xFBF2 0x02 store-status 1 ∷
     placed 0xFBF4 0x02 load-status 1 ∷
+    placed 0x600E 0x02 (status-1 + 1) 1 ∷
+    placed 0x600F 0x02 (status-2 + 1) 1 ∷
     placed 0xFBF0 0x03 (reset-status + 1) 2 ∷
     placed 0xFBF1 0x03 (exception-status + 1) 2 ∷
     placed 0xFBF2 0x03 (store-status + 1) 2 ∷
@@ -166,3 +176,7 @@ named-places =
     placed 0x800F 0x17 (settings-2 + high-hysteresis) 4 ∷
     placed 0x800F 0x18 (settings-2 + low-hysteresis) 4 ∷
     []
+
+-- what an exception reset clears: every subindex of these indices
+unfoldable pub latched : Row → Bool
+latched r = both (leb 0xF390 (r .index)) (leb (r .index) 0xF398)

@@ -141,6 +141,10 @@ rows =
 abbrev pub row-count : ℕ
 row-count = 129
 
+-- the row of 2003:00, the setup lock
+abbrev pub lock-row : ℕ
+lock-row = 30
+
 -- the row with a number; past the end a row of zeros
 abbrev pub at-row : ℕ → Row
 at-row r = getD rows r no-row

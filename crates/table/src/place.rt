@@ -83,3 +83,6 @@ pub const HIGH_HYSTERESIS: usize = 26;
 
 // 800E:18 and 800F:18, counted from subindex 01
 pub const LOW_HYSTERESIS: usize = 30;
+
+// the bytes of F390 to F398, which stand behind each other from F390:00 on
+pub const LATCHED_SIZE: usize = 33;

@@ -1,5 +1,5 @@
 -- RULE: the sides of a trip point, one sample on (R10.2 to R10.9).
-use mathlib.Core.Bool.{Bool, true, false, cond, not, _&&_}
+use mathlib.Core.Bool.{Bool, true, false, cond, not, _&&_, _||_}
 use Prim.Native.Nat.{ℕ}
 use lib.Dec.{eqb}
 use lib.Ieee.{Float, nan, inf, fin, binary32, ofBits, lt, add, sub}
@@ -45,6 +45,10 @@ pick-on false a b = b
 -- a sample that is not valid turns trips off (R10.3)
 unfoldable pub point-after : Point → On → Float → ℕ → On
 point-after point was p valid = pick-on (usable-pressure p valid) (point-next point was p) off
+
+-- the output of a trip point is on if one of its sides is (R10.9)
+unfoldable pub output : On → Bool
+output on = on .high || on .low
 
 -- both points off
 abbrev pub all-off : Trips

@@ -1,0 +1,73 @@
+-- The area that an index lies in, and that an index of an area without rows is absent. Assumes nothing.
+use mathlib.Core.Path.{_≡_, refl, sym, _∙_}
+use mathlib.Core.Bool.{Bool, true, false, not}
+use mathlib.Core.List.{List, [], _∷_}
+use mathlib.Core.Logic.{⊎-elim}
+use Prim.Native.Nat.{ℕ, zero, suc, _/_, _%_, _<_, _≤_}
+use native.Mathlib.Nat.{le-of-suc-le-suc, not-suc-le-zero}
+use native.Mathlib.Omega.{arith}
+use lib.Dec.{T, ltb, ltb→lt}
+use lib.ListN.{length, getD}
+use borrow.Author.Tests.{lt-leb, le-leb}
+use Rattle.table.specs.Row.{Row, no-row}
+use Rattle.table.specs.Rows.{rows}
+use Rattle.table.specs.Walk.{every, linked, chain}
+use Rattle.table.proofs.Walks.{every-at, chain-far, lt-or-ge}
+use Rattle.table.proofs.Table.{no-index-find}
+use Rattle.table.proofs.Searched.{No-index}
+use Rattle.find.specs.Areas.{Area, area, areas, empty-in, in-empty-area}
+use Rattle.find.specs.Search.{find-key, with-shape}
+use Rattle.find.specs.declared.Sought.the-variants.{NoIndex as NoIndex'}
+
+abbrev at-area : List Area → ℕ → Area
+at-area xs k = getD xs k (area 0 true)
+
+-- behind the areas before it, and not behind its own last index
+area-k : (xs : List Area) (k i : ℕ) → k < length xs → ((j : ℕ) → j < k → at-area xs j .last < i) → i ≤ at-area xs k .last → empty-in xs i ≡ at-area xs k .empty
+unfolding empty-in
+area-k [] k i h below up = absurd (not-suc-le-zero h)
+area-k (a ∷ xs) zero i h below up = rw (le-leb i (a .last) up)
+area-k (a ∷ xs) (suc k) i h below up =
+    rw (lt-leb i (a .last) (below 0 (omega arith))) (area-k xs k i (le-of-suc-le-suc h) (λ j l. below (suc j) (omega arith)) up)
+
+no-area : (xs : List Area) (i : ℕ) → ((j : ℕ) → j < length xs → at-area xs j .last < i) → empty-in xs i ≡ true
+unfolding empty-in
+no-area [] i below = refl
+no-area (a ∷ xs) i below = rw (lt-leb i (a .last) (below 0 (omega arith))) (no-area xs i (λ j l. below (suc j) (omega arith)))
+
+abbrev rising : Area → Area → Bool
+rising a b = ltb (a .last) (b .last)
+
+-- computed once: the areas rise
+areas-rise : T (chain rising areas)
+unfolding chain linked areas
+areas-rise = tt
+
+pub first-area : (i : ℕ) → 0 < length areas → i ≤ at-area areas 0 .last → in-empty-area i ≡ at-area areas 0 .empty
+first-area i h up = area-k areas 0 i h (λ j l. absurd (not-suc-le-zero l)) up
+
+module _ (k i : ℕ) (there : k < length areas) (low : at-area areas k .last < i) where
+  behind : (j : ℕ) → j < suc k → at-area areas j .last < i
+  behind j l = ⊎-elim
+      (λ (a : j < k). omega (arith, low, chain-far rising (λ x y. x .last < y .last) (λ x y. ltb→lt _ _) (λ x y z p q. omega arith) (area 0 true) areas areas-rise j k a there))
+      (λ (a : k ≤ j). let e : j ≡ k = omega arith in rw e low)
+      (lt-or-ge j k)
+
+  -- behind area k the next one decides, up to its last index; there is nothing behind the last area
+  pub next-area : suc k < length areas → i ≤ at-area areas (suc k) .last → in-empty-area i ≡ at-area areas (suc k) .empty
+  next-area h up = area-k areas (suc k) i h behind up
+
+  pub behind-all : length areas ≡ suc k → in-empty-area i ≡ true
+  behind-all e = no-area areas i (λ j l. behind j (omega arith))
+
+-- computed once over the table: no row lies in an empty area
+rows-in-areas : T (every (λ (r : Row). not (in-empty-area (r .index))) rows)
+unfolding every empty-in areas rows
+rows-in-areas = tt
+
+none-there : (i : ℕ) → in-empty-area i ≡ true → No-index rows i
+none-there i e m h q = rw (q, e) at (every-at (λ (r : Row). not (in-empty-area (r .index))) rows no-row rows-in-areas m h)
+
+pub empty-area : (k : ℕ) {b : Bool} → b ≡ in-empty-area (k / 256) → b ≡ true → NoIndex' ≡ with-shape (find-key k)
+unfolding with-shape
+empty-area k e h = rw (no-index-find (k / 256) (k % 256) (none-there (k / 256) (sym e ∙ h)))
