@@ -290,6 +290,8 @@ fn constants_of_the_header() {
         })
         .collect();
     let expected = [
+        ("VERSION_MAJOR", 1),
+        ("VERSION_MINOR", 0),
         ("VALUES_SIZE", 1024),
         ("BLOCK_SIZE", 512),
         ("STATE_SIZE", 256),
