@@ -82,7 +82,7 @@ static void rounding(void)
         changed += !goes_off(level, hysteresis, UPWARD);
     }
     printf("rounding upward: %u of %u trips are others\n", changed, i - 1);
-    CHECK(changed > 0);
+    CHECK(changed == 882); /* as docs/FIRMWARE.md says */
 }
 
 static void subnormals(void)

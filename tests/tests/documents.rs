@@ -300,6 +300,31 @@ fn abort_codes_of_the_code() {
     assert_eq!(listed, codes);
 }
 
+/// The greatest stack of the calls of docs/PERFORMANCE.md whose names begin with a word.
+fn deepest(word: &str) -> u32 {
+    include_str!("../../docs/PERFORMANCE.md")
+        .lines()
+        .filter(|line| line.starts_with(&format!("| {word}")) && line.matches('|').count() == 7)
+        .filter_map(|line| line.trim_end_matches(" |").rsplit("| ").next()?.replace(',', "").parse().ok())
+        .max()
+        .unwrap()
+}
+
+/// docs/FIRMWARE.md has the depths of stack that docs/PERFORMANCE.md has.
+#[test]
+fn stack_of_the_firmware_page() {
+    let thousands = |n: u32| if n < 1000 { n.to_string() } else { format!("{},{:03}", n / 1000, n % 1000) };
+    let page = include_str!("../../docs/FIRMWARE.md");
+    for said in [
+        format!("deepest message takes {} bytes", thousands(deepest(""))),
+        format!("others {})", thousands(deepest("any message"))),
+        format!("power-up {},", thousands(deepest("power-up"))),
+        format!("a sample {},", thousands(deepest("any sample"))),
+    ] {
+        assert!(page.contains(&said), "docs/FIRMWARE.md does not say '{said}'");
+    }
+}
+
 /// include/gauge.h: the numbers and sizes that the calls have.
 #[test]
 fn constants_of_the_header() {
