@@ -216,7 +216,7 @@ def table_problems(rows, end):
         yield "there are more than 64 pairs of limits"
     there = {(row["index"], row["sub"]) for row in rows}
     settings = [(name, index, sub) for index in (0x800E, 0x800F) for name, sub in SETTINGS]
-    for name, index, sub in PLACES + ROWS + RESPONSES + settings:
+    for name, index, sub in PLACES + ROWS + settings:
         if (index, sub) not in there:
             yield "there is no row %04X:%02X, which the code knows as %s" % (index, sub, name)
 

@@ -220,7 +220,7 @@ def whole_table(folder):
              "there are more than 64 pairs of limits"),
     ]:
         refused(folder, name, text, 0, reason)
-    for key, name in (("2003:00", "lock"), ("FBF2:01", "store-parameters"), ("FBF2:03", "store-status"), ("800F:17", "high-hysteresis")):
+    for key, name in (("2003:00", "lock"), ("FBF2:01", "store-parameters"), ("800F:17", "high-hysteresis")):
         number = number_of(key)
         text = page({number: LINES[number - 1].replace(f"| {key[:4]} | {key[5:]} |", f"| {key[:4]} | {int(key[5:], 16) + 4:02X} |")})
         lay(folder, text)
