@@ -5,7 +5,7 @@
 
 #include "gauge.h"
 
-/* a slot: sequence number, block, check word; each slot lies in a part of the memory that is erased by itself */
+/* a slot: sequence number, block, check word; each slot lies where it can be erased by itself */
 #define KEEP_SLOT_SIZE (4u + GAUGE_BLOCK_SIZE + 4u)
 #define KEEP_SLOT_DISTANCE 4096u
 
