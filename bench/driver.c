@@ -18,7 +18,7 @@ void *malloc(size n);
 int fflush(void *file);
 
 #define SIGNATURES(name)                                                                                                            \
-    unsigned name##_power_up(byte *values, size v, byte *block, size b, byte *state, size s);                                       \
+    unsigned name##_power_up(byte *values, size v, const byte *block, size b, byte *state, size s);                                 \
     unsigned name##_message(unsigned line, const byte *message, size m, byte *values, size v, byte *block, size b, byte *state,     \
                             size s, byte *answer, size a);                                                                          \
     unsigned name##_sample(float pressure, byte valid, unsigned faults, unsigned seconds, byte *values, size v, byte *state,        \
@@ -30,7 +30,7 @@ SIGNATURES(rival)
 
 #define KEEP __attribute__((noinline, used))
 
-KEEP static unsigned nothing_power_up(byte *values, size v, byte *block, size b, byte *state, size s)
+KEEP static unsigned nothing_power_up(byte *values, size v, const byte *block, size b, byte *state, size s)
 {
     (void)values, (void)v, (void)block, (void)b, (void)state, (void)s;
     return 0;
@@ -57,7 +57,7 @@ KEEP static unsigned nothing_image(const byte *values, size v, byte *image, size
 }
 
 struct board {
-    unsigned (*power_up)(byte *, size, byte *, size, byte *, size);
+    unsigned (*power_up)(byte *, size, const byte *, size, byte *, size);
     unsigned (*message)(unsigned, const byte *, size, byte *, size, byte *, size, byte *, size, byte *, size);
     unsigned (*sample)(float, byte, unsigned, unsigned, byte *, size, byte *, size);
     unsigned (*image)(const byte *, size, byte *, size);

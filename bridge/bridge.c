@@ -77,8 +77,8 @@ static uint32_t hand_on(struct request *request, uint8_t *buffers[BUFFERS])
     memcpy(&reply, buffer, sizeof reply);
     at = sizeof reply;
     for (b = 0; b < BUFFERS; b++) {
-        /* the message is lent for reading; so are the values of an image */
-        int written = !(b == TEXT || (b == VALUES && request->call == IMAGE));
+        /* the message is lent for reading; so are the block of a power-up and the values of an image */
+        int written = !(b == TEXT || (b == BLOCK && request->call == POWER_UP) || (b == VALUES && request->call == IMAGE));
         if (request->lengths[b] > 0) {
             if (written) {
                 memcpy(buffers[b], buffer + at, request->lengths[b]);
@@ -101,10 +101,10 @@ static unsigned length(size_t n)
     return n > LONGEST ? LONGEST + 1u : (unsigned)n;
 }
 
-uint32_t gauge_power_up(uint8_t *values, size_t values_len, uint8_t *block, size_t block_len, uint8_t *state, size_t state_len)
+uint32_t gauge_power_up(uint8_t *values, size_t values_len, const uint8_t *block, size_t block_len, uint8_t *state, size_t state_len)
 {
     struct request request = {POWER_UP, {0}, {length(values_len), length(block_len), length(state_len), 0, 0}};
-    uint8_t *buffers[BUFFERS] = {values, block, state, NULL, NULL};
+    uint8_t *buffers[BUFFERS] = {values, (uint8_t *)block, state, NULL, NULL};
     return hand_on(&request, buffers);
 }
 

@@ -10,7 +10,7 @@ long write(int file, const void *from, size n);
 void *memcpy(void *to, const void *from, size n);
 void _exit(int status) __attribute__((noreturn));
 
-unsigned gauge_power_up(byte *values, size v, byte *block, size b, byte *state, size s);
+unsigned gauge_power_up(byte *values, size v, const byte *block, size b, byte *state, size s);
 unsigned gauge_message(unsigned line, const byte *message, size m, byte *values, size v, byte *block, size b, byte *state, size s,
                        byte *answer, size a);
 unsigned gauge_sample(float pressure, byte valid, unsigned faults, unsigned seconds, byte *values, size v, byte *state, size s);

@@ -6,6 +6,15 @@
 #include <stddef.h>
 #include <stdint.h>
 
+#ifdef __cplusplus
+extern "C" {
+#endif
+
+/* The major number rises when firmware that was right with the header before may go wrong (a call, a size, a number or a layout is
+ * another), the minor one when something is added and such firmware stays right. */
+#define GAUGE_VERSION_MAJOR 1u
+#define GAUGE_VERSION_MINOR 0u
+
 /* sizes of what is lent */
 #define GAUGE_VALUES_SIZE 1024u
 #define GAUGE_BLOCK_SIZE 512u
@@ -27,7 +36,8 @@
 #define GAUGE_CLIENT_ABORT 5u   /* client's abort taken: no answer, no refusal */
 
 /* defaults everywhere, then NV entries from the saved block if it is not faulty; trips off, no transfers */
-uint32_t gauge_power_up(uint8_t *values, size_t values_len, uint8_t *block, size_t block_len, uint8_t *state, size_t state_len);
+uint32_t gauge_power_up(uint8_t *values, size_t values_len, const uint8_t *block, size_t block_len, uint8_t *state,
+                        size_t state_len);
 
 /* one message on a line; the answer is eight bytes */
 uint32_t gauge_message(uint32_t line, const uint8_t *message, size_t message_len, uint8_t *values, size_t values_len,
@@ -39,5 +49,9 @@ uint32_t gauge_sample(float pressure, uint8_t valid, uint32_t faults, uint32_t s
 
 /* the cyclic input image, ten bytes */
 uint32_t gauge_image(const uint8_t *values, size_t values_len, uint8_t *image, size_t image_len);
+
+#ifdef __cplusplus
+}
+#endif
 
 #endif

@@ -58,13 +58,15 @@ def main(words):
     if len(words) != 3:
         sys.exit(__doc__)
     dialogue, answers, capture = words
-    with open(dialogue, "rb") as asked, open(answers, "rb") as given:
-        try:
+    try:
+        with open(dialogue, "rb") as asked, open(answers, "rb") as given:
             frames = frames_of(asked.read(), given.read())
-        except ValueError as wrong:
-            sys.exit(f"{dialogue}, {answers}: {wrong}")
-    with open(capture, "wb") as file:
-        file.write(capture_of(frames))
+        with open(capture, "wb") as file:
+            file.write(capture_of(frames))
+    except OSError as wrong:
+        sys.exit(f"{wrong.filename}: {wrong.strerror}")
+    except ValueError as wrong:
+        sys.exit(f"{dialogue}, {answers}: {wrong}")
     print(f"{capture}: {len(frames)} frames")
 
 

@@ -14,8 +14,10 @@ holds the rows to the table's rule (and names the row that breaks it, which the 
     crates/table/src/row.rt        the rows that have names
     crates/rows/stdout             what the program `rows` must print
 
-With --check it writes nothing and fails if a file is not what it would write.
+With --check it writes nothing and fails if a file is not what it would write. A line of the page's table that is not a good row is
+named with its number and the reason, and then nothing is written. tools/table_test.py tries each reason.
 """
+import itertools
 import os
 import re
 import sys
@@ -26,6 +28,15 @@ KINDS = ["BOOL", "USINT", "UINT", "UDINT", "ULINT", "REAL", "STRING", "CARD", "C
 WIDTH = {"BOOL": 1, "USINT": 1, "UINT": 2, "UDINT": 4, "ULINT": 8, "REAL": 4, "CARD": 33}
 ACCESS = {"RO": 1, "WO": 2, "RW": 3}
 VALUES, BLOCK_BITS = 1024, 4096
+
+# the page's table: its columns, and for cells that need no other cell to be judged a pattern and its name
+COLUMNS = ["Index", "Sub", "Type", "Access", "NV", "Length", "Place", "Minimum", "Maximum", "Default", "Name", "Section"]
+HEADER = "| %s |" % " | ".join(COLUMNS)
+RULER = "|" + "---|" * len(COLUMNS)
+CELLS = {
+    "Index": ("[0-9A-F]{4}", "four digits of capital hex"), "Sub": ("[0-9A-F]{2}", "two digits of capital hex"),
+    "Type": ("|".join(KINDS), "a type"), "Access": ("|".join(ACCESS), "RO, WO or RW"), "NV": ("NV|-", "NV or a dash"),
+    "Length": ("[1-9][0-9]*", "a number of bytes"), "Place": ("[0-9]+|-", "a number or a dash")}
 
 # entries whose places the code knows by name
 PLACES = [
@@ -70,18 +81,77 @@ def rank(row, value):
     return 2**31 + value if value < 2**31 else 2**32 - value
 
 
+def table_lines(page):
+    """The rows' lines with their numbers, and what is wrong about the others: the table is the header, the ruler and all lines up to an
+    empty one, and no other line of the page has a bar."""
+    lines = list(enumerate(page.split("\n"), 1))
+    header = next((number for number, line in lines if line == HEADER), None)
+    if header is None:
+        return [], [(1, "the page has no line '%s'" % HEADER)]
+    wrong = [] if lines[header:header + 1] == [(header + 1, RULER)] else [(header + 1, "is not '%s'" % RULER)]
+    rows = list(itertools.takewhile(lambda numbered: numbered[1], lines[header + 1:]))
+    others = lines[:header - 1] + lines[header + 1 + len(rows):]
+    return rows, wrong + [(number, "has a bar, and is outside the table") for number, line in others if "|" in line]
+
+
+def shape_problems(line):
+    """What is wrong with a row before its cells are looked at."""
+    cells = line.split("|")
+    if len(cells) < 2 or cells[0] or cells[-1]:
+        return ["does not begin and end with a bar"]
+    if len(cells) - 2 != len(COLUMNS):
+        return ["has %d cells, not %d" % (len(cells) - 2, len(COLUMNS))]
+    return ["%s has not one blank on each side of it" % column for column, cell in zip(COLUMNS, cells[1:])
+            if not cell.strip() or cell != " %s " % cell.strip()]
+
+
+def number_problems(kind, column, text):
+    """What is wrong with a limit or a default."""
+    if not is_number({"kind": kind}):
+        return [] if text == "-" else ["%s is '%s', and a %s has a dash there" % (column, text, kind)]
+    digits = 2 * WIDTH[kind]
+    if not re.fullmatch("[0-9A-F]{%d}" % digits, text):
+        return ["%s is '%s', not %d digits of capital hex" % (column, text, digits)]
+    number = int(text, 16)
+    if kind == "REAL" and number % 2**31 >= 0x7F800000:
+        return ["%s is %s, which is not a finite REAL" % (column, text)]
+    if kind == "REAL" and column != "Default" and number == 2**31:
+        return ["%s is minus zero: a limit is written 00000000" % column]
+    return []
+
+
+def cell_problems(cells):
+    """What is wrong with the cells of a row, each by itself."""
+    wrong = ["%s is '%s', not %s" % (column, cells[column], words) for column, (pattern, words) in CELLS.items()
+             if not re.fullmatch(pattern, cells[column])]
+    if cells["Type"] in KINDS:
+        for column in ("Minimum", "Maximum", "Default"):
+            wrong += number_problems(cells["Type"], column, cells[column])
+    return wrong
+
+
+def row_of(number, cells):
+    value = lambda column: 0 if cells[column] == "-" else int(cells[column], 16)
+    return {
+        "line": number, "index": value("Index"), "sub": value("Sub"), "kind": cells["Type"], "access": cells["Access"],
+        "nv": int(cells["NV"] == "NV"), "len": int(cells["Length"]), "low": value("Minimum"), "high": value("Maximum"),
+        "def": value("Default"), "name": cells["Name"], "section": cells["Section"]}
+
+
 def read_rows(page):
+    """The rows of the page, and what is wrong with lines of its table, as (number of the line, words)."""
+    lines, wrong = table_lines(page)
     rows = []
-    for line in page.split("\n"):
-        cells = [cell.strip() for cell in line.strip().strip("|").split("|")]
-        if len(cells) != 12 or not re.fullmatch("[0-9A-F]{4}", cells[0]):
-            continue
-        number = lambda cell: 0 if cell == "-" else int(cell, 16)
-        rows.append({
-            "index": int(cells[0], 16), "sub": int(cells[1], 16), "kind": cells[2], "access": cells[3],
-            "nv": int(cells[4] == "NV"), "len": int(cells[5]), "low": number(cells[7]), "high": number(cells[8]),
-            "def": number(cells[9]), "name": cells[10], "section": cells[11]})
-    return rows
+    for number, line in lines:
+        problems = shape_problems(line)
+        if not problems:
+            cells = dict(zip(COLUMNS, (cell.strip() for cell in line.split("|")[1:])))
+            problems = cell_problems(cells)
+        if problems:
+            wrong.append((number, "; ".join(problems)))
+        else:
+            rows.append(row_of(number, cells))
+    return rows, wrong
 
 
 def held(row):
@@ -117,36 +187,28 @@ def block_end(rows):
     return block_starts(rows)[-1]
 
 
-def broken_rules(rows, end):
-    """The table's rule, row by row, in words."""
-    previous = -1
-    for row in rows:
-        say = lambda words: "%04X:%02X %s" % (row["index"], row["sub"], words)
-        if key(row) <= previous:
-            yield say("does not come after the row before it")
-        previous = key(row)
-        if row["kind"] not in KINDS or row["access"] not in ACCESS:
-            yield say("has an unknown type or access")
-            continue
-        if not 1 <= row["len"] <= 64:
-            yield say("has a length that is not 1 to 64")
-        if WIDTH.get(row["kind"], row["len"]) != row["len"]:
-            yield say("has a length that is not its type's")
-        if row["nv"] and row["kind"] in ("ULINT", "CARD", "COMMAND"):
-            yield say("is NV, and the saved block has no field for its type")
-        if row["nv"] and row["kind"] == "STRING" and row["place"] + 4 > VALUES:
-            yield say("is an NV string, of which a store looks at four bytes, and they end behind the values")
-        if is_number(row):
-            if not rank(row, row["low"]) <= rank(row, row["def"]) <= rank(row, row["high"]):
-                yield say("has limits out of order, or a default outside them")
-            if max(row["low"], row["high"], row["def"]) >= 256 ** row["len"]:
-                yield say("has a limit or a default that its length does not hold")
-            if row["kind"] == "BOOL" and row["high"] > 1:
-                yield say("is a BOOL whose maximum is above 1")
-            if row["kind"] == "ULINT" and (row["low"], row["high"]) != (0, 2**64 - 1):
-                yield say("is a ULINT that does not take every number of its 8 bytes")
-        elif row["low"] or row["high"] or row["def"]:
-            yield say("is no number, and has limits or a default")
+def row_problems(row):
+    """The table's rule for one row, in words."""
+    if row["len"] > 64:
+        yield "has more than 64 bytes"
+    if WIDTH.get(row["kind"], row["len"]) != row["len"]:
+        yield "has a length that is not its type's"
+    if row["nv"] and row["kind"] in ("ULINT", "CARD", "COMMAND"):
+        yield "is NV, and the saved block has no field for its type"
+    if row["nv"] and row["kind"] == "STRING" and row["place"] + 4 > VALUES:
+        yield "is an NV string, of which a store looks at four bytes, and they end behind the values"
+    if not rank(row, row["low"]) <= rank(row, row["def"]) <= rank(row, row["high"]):
+        yield "has limits out of order, or a default outside them"
+    if row["kind"] == "BOOL" and row["high"] > 1:
+        yield "is a BOOL whose maximum is above 1"
+    if row["kind"] == "ULINT" and (row["low"], row["high"]) != (0, 2**64 - 1):
+        yield "is a ULINT that does not take every number of its 8 bytes"
+    if row["def"] >= 2**32:
+        yield "has a default of more than 32 bits, which the columns do not hold"
+
+
+def table_problems(rows, end):
+    """The table's rule as a whole, in words."""
     if end > VALUES:
         yield "the values end at byte %d" % end
     if block_end(rows) > BLOCK_BITS:
@@ -155,6 +217,25 @@ def broken_rules(rows, end):
         yield "there are %d rows: the table has at most 511, and the search has a page from row 128 on" % len(rows)
     if len(limit_pairs(rows)[0]) > 64:
         yield "there are more than 64 pairs of limits"
+    there = {(row["index"], row["sub"]) for row in rows}
+    settings = [(name, index, sub) for index in (0x800E, 0x800F) for name, sub in SETTINGS]
+    for name, index, sub in PLACES + ROWS + settings:
+        if (index, sub) not in there:
+            yield "there is no row %04X:%02X, which the code knows as %s" % (index, sub, name)
+
+
+def broken_rules(rows, end):
+    """Where the table's rule is broken, as (number of the line, or 0 for the whole table, words)."""
+    previous = -1
+    for row in rows:
+        problems = list(row_problems(row))
+        if key(row) <= previous:
+            problems.insert(0, "does not come after the row before it")
+        previous = key(row)
+        for words in problems:
+            yield row["line"], "%04X:%02X %s" % (row["index"], row["sub"], words)
+    for words in table_problems(rows, end):
+        yield 0, words
 
 
 def shown(row, field):
@@ -166,14 +247,11 @@ def place_shown(row):
 
 
 def page_with_places(page, rows):
-    left = iter(rows)
-    lines = []
-    for line in page.split("\n"):
-        cells = line.split("|")
-        if len(cells) == 14 and re.fullmatch(" [0-9A-F]{4} ", cells[1]):
-            cells[7] = " %s " % place_shown(next(left))
-            line = "|".join(cells)
-        lines.append(line)
+    lines = page.split("\n")
+    for row in rows:
+        cells = lines[row["line"] - 1].split("|")
+        cells[1 + COLUMNS.index("Place")] = " %s " % place_shown(row)
+        lines[row["line"] - 1] = "|".join(cells)
     return "\n".join(lines)
 
 
@@ -183,13 +261,18 @@ def printed(row):
         place_shown(row), shown(row, "low"), shown(row, "high"), shown(row, "def"))
 
 
+def accesses(rows):
+    """The accesses that occur, for an import."""
+    return ", ".join(access for access in ACCESS if any(row["access"] == access for row in rows))
+
+
 def rows_antt(rows):
     lines = ["""-- RULE: THE OBJECT TABLE (R1.1): one line for each row, in the order of docs/object-table.md, from which tools/table.py writes this file.
 -- index, subindex, type, access, NV mark, length, place, minimum, maximum, default. Assumes nothing.
 use mathlib.Core.List.{List, [], _∷_}
 use Prim.Native.Nat.{ℕ}
 use lib.ListN.{getD}
-use Rattle.table.specs.Row.{Row, row, no-row, BOOL, USINT, UINT, UDINT, ULINT, REAL, STRING, CARD, COMMAND, RO, RW}
+use Rattle.table.specs.Row.{Row, row, no-row, BOOL, USINT, UINT, UDINT, ULINT, REAL, STRING, CARD, COMMAND, """ + accesses(rows) + """}
 
 unfoldable pub rows : List Row
 rows =
@@ -391,14 +474,24 @@ pub const FIRST_SHAPE: u16 = %d;
     return text
 
 
-def main():
-    page = open(os.path.join(TOP, PAGE)).read()
-    rows = read_rows(page)
+def read_text(path):
+    with open(path, encoding="utf-8", newline="") as file:
+        return file.read()
+
+
+def read_table(page):
+    """The rows with their places, and the byte behind the last; a page with a bad line ends the program."""
+    rows, wrong = read_rows(page)
     end = place_rows(rows)
-    broken = list(broken_rules(rows, end))
-    if broken:
-        sys.exit("\n".join(broken))
-    files = {
+    wrong = sorted(wrong) or list(broken_rules(rows, end))
+    if wrong:
+        sys.exit("\n".join(PAGE + (":%d: " % number if number else ": ") + words for number, words in wrong))
+    return rows, end
+
+
+def files_of(page, rows, end):
+    """Each file that this tool writes, and its text."""
+    return {
         PAGE: page_with_places(page, rows),
         "crates/table/specs/Rows.antt": rows_antt(rows),
         "crates/find/src/columns.rt": columns_rt(rows, end),
@@ -409,20 +502,32 @@ def main():
         "crates/table/src/row.rt": row_rt(rows),
         "crates/rows/stdout": "".join(printed(row) for row in rows),
     }
-    stale = []
-    for name, text in files.items():
+
+
+def write(name, text):
+    path = os.path.join(TOP, name)
+    os.makedirs(os.path.dirname(path), exist_ok=True)
+    with open(path, "w", encoding="utf-8", newline="") as file:
+        file.write(text)
+
+
+def main(words):
+    if words not in ([], ["--check"]):
+        sys.exit(__doc__)
+    page = read_text(os.path.join(TOP, PAGE))
+    rows, end = read_table(page)
+    stale = {}
+    for name, text in files_of(page, rows, end).items():
         path = os.path.join(TOP, name)
-        if os.path.exists(path) and open(path).read() == text:
-            continue
-        stale.append(name)
-        if "--check" not in sys.argv:
-            os.makedirs(os.path.dirname(path), exist_ok=True)
-            open(path, "w").write(text)
-    if "--check" in sys.argv and stale:
+        if not os.path.exists(path) or read_text(path) != text:
+            stale[name] = text
+    if words and stale:
         sys.exit("not what docs/object-table.md gives (run tools/table.py): " + ", ".join(stale))
+    for name, text in stale.items():
+        write(name, text)
     print("%d rows, %d bytes of values, %d bits of the saved block" % (
         len(rows), end, block_end(rows)))
 
 
 if __name__ == "__main__":
-    main()
+    main(sys.argv[1:])

@@ -34,7 +34,7 @@ fn prepare(memory: &mut Memory, messages: &[[u8; 8]]) {
 
 fn fresh() -> Memory {
     let mut memory = Memory::zero();
-    model::power_up(&mut memory.values, &mut memory.block, &mut memory.state);
+    model::power_up(&mut memory.values, &memory.block, &mut memory.state);
     memory
 }
 
@@ -232,7 +232,7 @@ pub fn kinds() -> Vec<Kind> {
     for seed in 1..=4 {
         let trace = Trace::random(1000 + seed, Style::FromPowerUp);
         let mut memory = trace.memory.clone();
-        model::power_up(&mut memory.values, &mut memory.block, &mut memory.state);
+        model::power_up(&mut memory.values, &memory.block, &mut memory.state);
         for op in trace.ops {
             match op {
                 Op::Message { line, message, .. } => {

@@ -16,10 +16,20 @@ unsafe fn lent<'a>(bytes: *mut u8, len: usize) -> &'a mut [u8] {
 }
 
 /// # Safety
+/// Likewise, of bytes that are only read.
+unsafe fn shown<'a>(bytes: *const u8, len: usize) -> &'a [u8] {
+    if len == 0 {
+        &[]
+    } else {
+        std::slice::from_raw_parts(bytes, len)
+    }
+}
+
+/// # Safety
 /// As include/gauge.h says.
 #[no_mangle]
-pub unsafe extern "C" fn rival_power_up(values: *mut u8, v: usize, block: *mut u8, b: usize, state: *mut u8, s: usize) -> u32 {
-    model::power_up(lent(values, v), lent(block, b), lent(state, s))
+pub unsafe extern "C" fn rival_power_up(values: *mut u8, v: usize, block: *const u8, b: usize, state: *mut u8, s: usize) -> u32 {
+    model::power_up(lent(values, v), shown(block, b), lent(state, s))
 }
 
 /// # Safety
@@ -38,7 +48,7 @@ pub unsafe extern "C" fn rival_message(
     answer: *mut u8,
     a: usize,
 ) -> u32 {
-    model::message(line, lent(message.cast_mut(), m), lent(values, v), lent(block, b), lent(state, s), lent(answer, a))
+    model::message(line, shown(message, m), lent(values, v), lent(block, b), lent(state, s), lent(answer, a))
 }
 
 /// # Safety
@@ -61,5 +71,5 @@ pub unsafe extern "C" fn rival_sample(
 /// As include/gauge.h says.
 #[no_mangle]
 pub unsafe extern "C" fn rival_image(values: *const u8, v: usize, image: *mut u8, i: usize) -> u32 {
-    model::image(lent(values.cast_mut(), v), lent(image, i))
+    model::image(shown(values, v), lent(image, i))
 }

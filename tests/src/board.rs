@@ -1,7 +1,7 @@
 //! The four calls on slices, and a board with its memory.
 
 pub trait Board {
-    fn power_up(&mut self, values: &mut [u8], block: &mut [u8], state: &mut [u8]) -> u32;
+    fn power_up(&mut self, values: &mut [u8], block: &[u8], state: &mut [u8]) -> u32;
 
     fn message(
         &mut self,
@@ -48,7 +48,7 @@ impl<B: Board> Desk<B> {
 
     pub fn power_up(&mut self) -> u32 {
         let m = &mut self.memory;
-        self.board.power_up(&mut m.values, &mut m.block, &mut m.state)
+        self.board.power_up(&mut m.values, &m.block, &mut m.state)
     }
 
     /// A message and its answer; `None` is the client's abort.

@@ -7,7 +7,7 @@ extern "C" {
     fn gauge_power_up(
         values: *mut u8,
         values_len: usize,
-        block: *mut u8,
+        block: *const u8,
         block_len: usize,
         state: *mut u8,
         state_len: usize,
@@ -43,10 +43,10 @@ extern "C" {
 
 /// The four calls with nothing round them, for measurements.
 pub mod bare {
-    pub fn power_up(values: &mut [u8], block: &mut [u8], state: &mut [u8]) -> u32 {
-        let (v, b, s) = (values.len(), block.len(), state.len());
+    pub fn power_up(values: &mut [u8], block: &[u8], state: &mut [u8]) -> u32 {
+        let (v, s) = (values.len(), state.len());
         // SAFETY: each pointer comes with its slice's length, and the slices do not overlap
-        unsafe { super::gauge_power_up(values.as_mut_ptr(), v, block.as_mut_ptr(), b, state.as_mut_ptr(), s) }
+        unsafe { super::gauge_power_up(values.as_mut_ptr(), v, block.as_ptr(), block.len(), state.as_mut_ptr(), s) }
     }
 
     pub fn message(line: u32, message: &[u8], values: &mut [u8], block: &mut [u8], state: &mut [u8], answer: &mut [u8]) -> u32 {
@@ -167,7 +167,7 @@ impl Default for Exported {
 }
 
 impl Board for Exported {
-    fn power_up(&mut self, values: &mut [u8], block: &mut [u8], state: &mut [u8]) -> u32 {
+    fn power_up(&mut self, values: &mut [u8], block: &[u8], state: &mut [u8]) -> u32 {
         let shift = self.shift();
         let [v, b, s, ..] = &mut self.buffers;
         v.lay(values, shift);
@@ -175,7 +175,7 @@ impl Board for Exported {
         s.lay(state, shift);
         let number = bare::power_up(v.slice(), b.slice(), s.slice());
         v.take(values, "values");
-        b.take(block, "block");
+        b.same(block, "block");
         s.take(state, "state");
         number
     }

@@ -9,7 +9,7 @@ use crate::model::{image_with, message_with, power_up_with, sample_with};
 pub struct Model<F: Fault>(pub F);
 
 impl<F: Fault> Board for Model<F> {
-    fn power_up(&mut self, values: &mut [u8], block: &mut [u8], state: &mut [u8]) -> u32 {
+    fn power_up(&mut self, values: &mut [u8], block: &[u8], state: &mut [u8]) -> u32 {
         power_up_with(self.0, values, block, state)
     }
 

@@ -83,7 +83,7 @@ fn room(size: usize) -> Vec<u8> {
 pub fn apply(op: &Op, board: &mut dyn Board, memory: &mut Memory) -> (u32, Vec<u8>) {
     let m = memory;
     match op {
-        Op::PowerUp => (board.power_up(&mut m.values, &mut m.block, &mut m.state), Vec::new()),
+        Op::PowerUp => (board.power_up(&mut m.values, &m.block, &mut m.state), Vec::new()),
         Op::Message { line, message, room: size } => {
             let mut answer = room(*size);
             let number = board.message(*line, message, &mut m.values, &mut m.block, &mut m.state, &mut answer);
@@ -115,7 +115,7 @@ pub fn apply(op: &Op, board: &mut dyn Board, memory: &mut Memory) -> (u32, Vec<u
                 (sized(&m.values, sizes[0]), sized(&m.block, sizes[1]), sized(&m.state, sizes[2]));
             let mut answer = room(*size);
             let number = match call {
-                0 => board.power_up(&mut values, &mut block, &mut state),
+                0 => board.power_up(&mut values, &block, &mut state),
                 1 => board.message(*line, message, &mut values, &mut block, &mut state, &mut answer),
                 2 => board.sample(0.5, 1, *line, 7, &mut values, &mut state),
                 _ => board.image(&values, &mut answer),

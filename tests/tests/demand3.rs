@@ -21,7 +21,7 @@ struct Counts {
 /// Runs a trace from power-up and holds it to demand 3.
 fn holds(trace: &Trace, board: &mut dyn Board, counts: &mut Counts) -> Result<(), String> {
     let mut memory = trace.memory.clone();
-    board.power_up(&mut memory.values, &mut memory.block, &mut memory.state);
+    board.power_up(&mut memory.values, &memory.block, &mut memory.state);
     let mut gauge = Plain::new(&trace.memory.block);
     let mut observer = Observer::new();
     for op in &trace.ops {
@@ -181,7 +181,7 @@ fn dropped_writes_change_nothing() {
         for drop in drops {
             let mut memory = Memory::zero();
             let mut board = subject();
-            board.power_up(&mut memory.values, &mut memory.block, &mut memory.state);
+            board.power_up(&mut memory.values, &memory.block, &mut memory.state);
             let before = memory.clone();
             let [low, high] = line.index.to_le_bytes();
             for message in [[0x20, low, high, line.sub, 0, 0, 0, 0], [0x00, 0x1F, 9, 9, 9, 9, 9, 9], drop] {
@@ -204,7 +204,7 @@ fn reads_end_after_their_count_of_parts() {
             for own in 0..2u32 {
                 let mut memory = Memory::zero();
                 let mut board = subject();
-                board.power_up(&mut memory.values, &mut memory.block, &mut memory.state);
+                board.power_up(&mut memory.values, &memory.block, &mut memory.state);
                 let mut say = |line: u32, message: [u8; 8]| {
                     let mut answer = [0; 8];
                     let m = &mut memory;

@@ -179,18 +179,40 @@ fn quoted(text: &str) -> Vec<String> {
     text.split('`').skip(1).step_by(2).map(str::to_string).collect()
 }
 
+/// The codes of docs/ABORT-CODES.md, in the order of its table.
+fn codes_of_the_page() -> Vec<u32> {
+    include_str!("../../docs/ABORT-CODES.md")
+        .lines()
+        .filter_map(|line| line.strip_prefix("| ")?.split(" |").next())
+        .filter(|cell| cell.len() == 8)
+        .filter_map(|cell| u32::from_str_radix(cell, 16).ok())
+        .collect()
+}
+
+/// dialogues/every-code has an abort answer with each code of the page, in its order. The BAG552 has no write-only entry.
+#[test]
+fn abort_codes_of_the_dialogue() {
+    let mut given = Vec::new();
+    for answer in include_str!("../../dialogues/every-code.out").lines() {
+        if let Some(code) = answer.get(2..).filter(|eight| eight.starts_with("80")).map(|eight| &eight[8..]) {
+            let code = u32::from_str_radix(code, 16).unwrap().swap_bytes();
+            if !given.contains(&code) {
+                given.push(code);
+            }
+        }
+    }
+    let mut expected = codes_of_the_page();
+    expected.retain(|&code| code != board_tests::model::code::WRITE_ONLY);
+    assert_eq!(given, expected);
+}
+
 /// docs/ABORT-CODES.md: each code's example is the board's answer, the codes stand in the order of the checks, and no code of the
 /// independent board is left out.
 #[test]
 fn abort_codes_of_the_page() {
     use board_tests::model::code;
     let page = include_str!("../../docs/ABORT-CODES.md");
-    let order: Vec<u32> = page
-        .lines()
-        .filter_map(|line| line.strip_prefix("| ")?.split(" |").next())
-        .filter(|cell| cell.len() == 8)
-        .filter_map(|cell| u32::from_str_radix(cell, 16).ok())
-        .collect();
+    let order = codes_of_the_page();
     assert_eq!(
         order,
         [
@@ -278,6 +300,31 @@ fn abort_codes_of_the_code() {
     assert_eq!(listed, codes);
 }
 
+/// The greatest stack of the calls of docs/PERFORMANCE.md whose names begin with a word.
+fn deepest(word: &str) -> u32 {
+    include_str!("../../docs/PERFORMANCE.md")
+        .lines()
+        .filter(|line| line.starts_with(&format!("| {word}")) && line.matches('|').count() == 7)
+        .filter_map(|line| line.trim_end_matches(" |").rsplit("| ").next()?.replace(',', "").parse().ok())
+        .max()
+        .unwrap()
+}
+
+/// docs/FIRMWARE.md has the depths of stack that docs/PERFORMANCE.md has.
+#[test]
+fn stack_of_the_firmware_page() {
+    let thousands = |n: u32| if n < 1000 { n.to_string() } else { format!("{},{:03}", n / 1000, n % 1000) };
+    let page = include_str!("../../docs/FIRMWARE.md");
+    for said in [
+        format!("deepest message takes {} bytes", thousands(deepest(""))),
+        format!("others {})", thousands(deepest("any message"))),
+        format!("power-up {},", thousands(deepest("power-up"))),
+        format!("a sample {},", thousands(deepest("any sample"))),
+    ] {
+        assert!(page.contains(&said), "docs/FIRMWARE.md does not say '{said}'");
+    }
+}
+
 /// include/gauge.h: the numbers and sizes that the calls have.
 #[test]
 fn constants_of_the_header() {
@@ -290,6 +337,8 @@ fn constants_of_the_header() {
         })
         .collect();
     let expected = [
+        ("VERSION_MAJOR", 1),
+        ("VERSION_MINOR", 0),
         ("VALUES_SIZE", 1024),
         ("BLOCK_SIZE", 512),
         ("STATE_SIZE", 256),

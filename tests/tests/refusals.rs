@@ -10,7 +10,7 @@ const ROOM: u8 = 0xC3;
 fn busy() -> Memory {
     let mut r = Random::new(5);
     let mut memory = Memory { values: r.bytes(1024), block: r.bytes(512), state: r.bytes(256) };
-    subject().power_up(&mut memory.values, &mut memory.block, &mut memory.state);
+    subject().power_up(&mut memory.values, &memory.block, &mut memory.state);
     let mut answer = [0; 8];
     for message in [[0x40, 0x10, 0x20, 0, 0, 0, 0, 0], [0x60, 0, 0, 0, 0, 0, 0, 0]] {
         let m = &mut memory;
@@ -107,11 +107,9 @@ fn power_up_sample_and_image() {
     for values in [0, 1023, 1024, 1025] {
         for state in [0, 255, 256, 257] {
             for block in [0, 511, 512, 513] {
-                let (mut v, mut b, mut s) =
-                    (sized(&memory.values, values), sized(&memory.block, block), sized(&memory.state, state));
+                let (mut v, b, mut s) = (sized(&memory.values, values), sized(&memory.block, block), sized(&memory.state, state));
                 let good = (values, block, state) == (1024, 512, 256);
-                assert_eq!(subject().power_up(&mut v, &mut b, &mut s), if good { 0 } else { 4 });
-                assert!(b == sized(&memory.block, block), "power-up wrote into the block");
+                assert_eq!(subject().power_up(&mut v, &b, &mut s), if good { 0 } else { 4 });
                 if !good {
                     assert!(v == sized(&memory.values, values) && s == sized(&memory.state, state), "number 4 wrote");
                 }

@@ -44,8 +44,8 @@ fn restart<F: Fault>(f: F, values: &mut Values, block: &Block, state: &mut State
     state[TRIPS..TRIPS + 4].fill(0);
 }
 
-pub fn power_up_with<F: Fault>(f: F, values: &mut [u8], block: &mut [u8], state: &mut [u8]) -> u32 {
-    let (Ok(values), Ok(block), Ok(state)) = (values.try_into(), (&*block).try_into(), state.try_into()) else {
+pub fn power_up_with<F: Fault>(f: F, values: &mut [u8], block: &[u8], state: &mut [u8]) -> u32 {
+    let (Ok(values), Ok(block), Ok(state)) = (values.try_into(), block.try_into(), state.try_into()) else {
         return BAD_MEMORY;
     };
     restart(f, values, block, state);
@@ -175,7 +175,7 @@ pub fn image_with<F: Fault>(f: F, values: &[u8], image: &mut [u8]) -> u32 {
 }
 
 /// `gauge_power_up`
-pub fn power_up(values: &mut [u8], block: &mut [u8], state: &mut [u8]) -> u32 {
+pub fn power_up(values: &mut [u8], block: &[u8], state: &mut [u8]) -> u32 {
     power_up_with(Sound, values, block, state)
 }
 
