@@ -58,7 +58,8 @@ module _ (board : Given → Called) (forgets : Forgets board) (h : Meets board) 
   kept a c z = sym (ap (λ (o : Called). o .values) (h (lent a c))) ∙ forgets (lent a c) (ap number-of (h (lent a c)) ∙ z)
 
   -- a conversation that is answered leaves the values as they were
-  kept-along : (cs : List Case) (a : Arrays) → map (λ (b : Back). b .number) (gives-from a cs) ≡ map (λ (c : Case). 0) cs → (final a (map asks cs)) .values ≡ a .values
+  kept-along : (cs : List Case) (a : Arrays) → map (λ (b : Back). b .number) (gives-from a cs) ≡ map (λ (c : Case). 0) cs
+      → (final a (map asks cs)) .values ≡ a .values
   unfolding history final
   kept-along [] a z = refl
   kept-along (c ∷ cs) a z = kept-along cs ((exported a (asks c)) .0) (ap (drop 1) z) ∙ kept a c (ap (λ (l : List ℕ). getD l 0 0) z)
@@ -80,7 +81,8 @@ unfolding label-changed opened
 all-answered = refl
 
 pub forgetful-refused : (board : Given → Called) → Forgets board → Meets board → ⊥
-forgetful-refused board forgets h = no-letter (sym next-changed ∙ ap next-byte (kept-along board forgets h label-changed powered all-answered) ∙ next-forgotten)
+forgetful-refused board forgets h =
+    no-letter (sym next-changed ∙ ap next-byte (kept-along board forgets h label-changed powered all-answered) ∙ next-forgotten)
 
 -- ---- one that serves the opening and fakes the later parts: a label of zeros that was changed after the opening and one of 41s that was
 -- written before it are held in memories that are alike in all else, and have other first parts
@@ -147,8 +149,12 @@ answers-wrong i = go (eqb ((promised i) .number) 0) refl
     go false e z = absurd (eqb-false _ _ e z)
 
 pub is-all-four : Aborts wrong × Sends (replicate 8 0x80) wrong × Forgets wrong × Fakes (λ i. replicate 8 0x80) wrong
-is-all-four =
-    ((λ i z. ap (byte-of 0) (answers-wrong i z)), (λ i z. ap eight-of (answers-wrong i z)), (λ i z. ap (λ (o : Called). o .values) (answers-wrong i z)), λ i z l m. ap eight-of (answers-wrong i z))
+is-all-four = (
+  (λ i z. ap (byte-of 0) (answers-wrong i z)),
+  (λ i z. ap eight-of (answers-wrong i z)),
+  (λ i z. ap (λ (o : Called). o .values) (answers-wrong i z)),
+  λ i z l m. ap eight-of (answers-wrong i z),
+)
 
 pub keeps-refusals : (i : Given) → ((promised i) .number ≡ 0 → ⊥) → wrong i ≡ promised i
 unfolding wrong

@@ -4,10 +4,11 @@ use mathlib.Core.List.{List, [], _∷_, _++_, map}
 use lib.ListN.{length, take, drop, replicate}
 use Rattle.demand3.specs.Firmware.{Arrays, Exported, to-message, Back, back, history, final, power-on}
 
--- eight bytes; those that are not shown are zero
+-- eight bytes, with zeros for those that are not written out
 abbrev pub shown : List ℕ → List ℕ
 shown bytes = bytes ++ replicate (8 - length bytes) 0
 
+-- a message on a line, and its answer
 pub record Case : Type 0 where
   pub line : ℕ
   pub message : List ℕ
@@ -23,7 +24,7 @@ asks c = to-message (c .line) (shown (c .message)) (replicate 8 0xEE)
 abbrev pub expects : Case → Back
 expects c = back 0 (shown (c .answer))
 
--- values and state of FF bytes before power-up, whatever they held (R9.3)
+-- after power-up on values and state that held FF bytes (R9.3)
 abbrev pub powered : Arrays
 powered = power-on (replicate 1024 0xFF) (replicate 512 0) (replicate 256 0xFF)
 

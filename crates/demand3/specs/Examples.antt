@@ -3,38 +3,38 @@ use mathlib.Core.List.{List, [], _∷_, _++_}
 use lib.ListN.{take, drop}
 use Rattle.demand3.specs.Conversation.{Case, on, label-read, label-write}
 
--- read lock
+-- the lock is read
 unfoldable pub case-A : List Case
 case-A = on 0 (0x40 ∷ 0x03 ∷ 0x20 ∷ 0x00 ∷ []) (0x4F ∷ 0x03 ∷ 0x20 ∷ 0x00 ∷ []) ∷ []
 
--- write 1
+-- the lock is set
 unfoldable pub case-B : List Case
 case-B = on 0 (0x2F ∷ 0x03 ∷ 0x20 ∷ 0x00 ∷ 0x01 ∷ []) (0x60 ∷ 0x03 ∷ 0x20 ∷ 0x00 ∷ []) ∷ []
 
--- write 2
+-- the lock takes no 2
 unfoldable pub case-C : List Case
 case-C = on 0 (0x2F ∷ 0x03 ∷ 0x20 ∷ 0x00 ∷ 0x02 ∷ []) (0x80 ∷ 0x03 ∷ 0x20 ∷ 0x00 ∷ 0x31 ∷ 0x00 ∷ 0x09 ∷ 0x06 ∷ []) ∷ []
 
--- read 2003:01
+-- a subindex that is absent
 unfoldable pub case-D : List Case
 case-D = on 0 (0x40 ∷ 0x03 ∷ 0x20 ∷ 0x01 ∷ []) (0x80 ∷ 0x03 ∷ 0x20 ∷ 0x01 ∷ 0x11 ∷ 0x00 ∷ 0x09 ∷ 0x06 ∷ []) ∷ []
 
--- read 2004:00
+-- an index that is absent
 unfoldable pub case-E : List Case
 case-E = on 0 (0x40 ∷ 0x04 ∷ 0x20 ∷ 0x00 ∷ []) (0x80 ∷ 0x04 ∷ 0x20 ∷ 0x00 ∷ 0x00 ∷ 0x00 ∷ 0x02 ∷ 0x06 ∷ []) ∷ []
 
--- part with no transfer
+-- a part is asked for where no transfer goes on
 unfoldable pub case-F : List Case
 case-F = on 0 (0x60 ∷ []) (0x80 ∷ 0x00 ∷ 0x00 ∷ 0x00 ∷ 0x01 ∷ 0x00 ∷ 0x04 ∷ 0x05 ∷ []) ∷ []
 
--- card opened, first part asked with 70
+-- the card's first part is asked for with the wrong toggle
 unfoldable pub case-G : List Case
 case-G =
     on 0 (0x40 ∷ 0x10 ∷ 0x20 ∷ 0x00 ∷ []) (0x41 ∷ 0x10 ∷ 0x20 ∷ 0x00 ∷ 0x21 ∷ []) ∷
     on 0 (0x70 ∷ []) (0x80 ∷ 0x10 ∷ 0x20 ∷ 0x00 ∷ 0x00 ∷ 0x00 ∷ 0x03 ∷ 0x05 ∷ []) ∷
     []
 
--- write opening for the card announcing 34, 32, 33
+-- the card's length is announced too long, too short and right
 unfoldable pub case-H : List Case
 case-H =
     on 0 (0x21 ∷ 0x10 ∷ 0x20 ∷ 0x00 ∷ 0x22 ∷ []) (0x80 ∷ 0x10 ∷ 0x20 ∷ 0x00 ∷ 0x12 ∷ 0x00 ∷ 0x07 ∷ 0x06 ∷ []) ∷
@@ -42,18 +42,18 @@ case-H =
     on 0 (0x21 ∷ 0x10 ∷ 0x20 ∷ 0x00 ∷ 0x21 ∷ []) (0x60 ∷ 0x10 ∷ 0x20 ∷ 0x00 ∷ []) ∷
     []
 
--- load with lock 1
+-- a load while the lock is set
 unfoldable pub case-I : List Case
 case-I =
     on 0 (0x2F ∷ 0x03 ∷ 0x20 ∷ 0x00 ∷ 0x01 ∷ []) (0x60 ∷ 0x03 ∷ 0x20 ∷ 0x00 ∷ []) ∷
     on 0 (0x23 ∷ 0xF4 ∷ 0xFB ∷ 0x01 ∷ 0x6C ∷ 0x6F ∷ 0x61 ∷ 0x64 ∷ []) (0x80 ∷ 0xF4 ∷ 0xFB ∷ 0x01 ∷ 0x22 ∷ 0x00 ∷ 0x00 ∷ 0x08 ∷ []) ∷
     []
 
--- line 0 has the first part of a zero label; line 1 writes 32 bytes of 41; line 0 still gets zeros
+-- line 1 writes the label between two parts of its read on line 0, which goes on with the old bytes
 unfoldable pub label-changed : List Case
 label-changed = take 2 (label-read 0 0) ++ (label-write 1 0x41 ++ drop 2 (label-read 0 0))
 
--- the next read gets 41s
+-- and the next read has the new ones
 unfoldable pub case-J : List Case
 case-J = label-changed ++ label-read 0 0x41
 

@@ -1,4 +1,5 @@
--- RULE: THE BOARDS THAT MUST BE REFUSED, each by what it does where it answers: what it does with a call that is refused by number is left open. Assumes nothing.
+-- RULE: THE BOARDS THAT MUST BE REFUSED, each by what it does where it answers with number 0: what it does with any other call is left open.
+-- Assumes nothing.
 use Prim.Native.Nat.{ℕ, _/_}
 use mathlib.Core.Path.{_≡_}
 use mathlib.Core.List.{List}
