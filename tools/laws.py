@@ -17,7 +17,7 @@ ROOT = pathlib.Path(__file__).resolve().parent.parent
 LISTS = ("docs/PROMISES.md", "docs/THEOREM.md")
 THEOREMS = "## Theorems over the definitions"
 NAME = r"[^\s(){}\[\],;.:]+"
-DEFINED = re.compile(rf"^( *)((?:(?:unfoldable|abbrev|opaque) )*)(pub )?(data |record )?({NAME})(?= )")
+DEFINED = re.compile(rf"^ *((?:(?:unfoldable|abbrev|opaque) )*)(pub )?(data |record )?({NAME})(?= )")
 IMPORT = re.compile(r"^(?:ghost )?(?:pub )?use ([^{;\s]+?)(?:\.\{([^}]*)\})?(?: as (\S+?))?;?$")
 ITEM = re.compile(r"^ *(?:pub )?(?:const|fn) (\w+)")
 KEYWORDS = {"use", "mod", "pub", "module", "where", "unfolding", "let", "instance", "infixl", "infixr", "infix"}
@@ -85,9 +85,8 @@ class File:
             if depth < section:
                 section = depth
             match = DEFINED.match(line)
-            new = match and depth == section and match[5] not in KEYWORDS and (match[2] or match[3] or match[4] or line[match.end() :].startswith(" :"))
-            if new and not (found and found[-1].name == match[5] and found[-1].last == at - 1 and not match[3]):
-                inner = Definition(match[5], bool(match[3]), at)
+            if match and depth == section and match[4] not in KEYWORDS and (any(match.groups()[:3]) or line[match.end() :].startswith(" :")):
+                inner = Definition(match[4], bool(match[2]), at)
                 found.append(inner)
             if inner:
                 inner.last = at
@@ -102,7 +101,8 @@ class File:
 def is_of(path, file):
     """Whether a module's path names this file."""
     parts = path.replace("·specs.specs", ".specs").replace("·proofs.proofs", ".proofs").split(".")
-    return parts[:2] == ["Rattle·" + file.crate, file.part] and parts[2:] == list(file.path.relative_to(ROOT / "crates" / file.crate / file.part).with_suffix("").parts)
+    inside = file.path.relative_to(ROOT / "crates" / file.crate).with_suffix("")
+    return parts == ["Rattle·" + file.crate, *inside.parts]
 
 
 def cited(file, name, own, files):
@@ -115,7 +115,7 @@ def cited(file, name, own, files):
                 continue
             if there == name and other.used(here, ()):
                 return True
-            if there is None and re.search(re.escape(here) + r"\." + re.escape(name) + r"(?![^\s(){}\[\],;.])", "\n".join(other.lines)):
+            if there is None and re.search(re.escape(f"{here}.{name}") + r"(?![^\s(){}\[\],;.])", "\n".join(other.lines)):
                 return True
     return False
 
