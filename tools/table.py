@@ -37,6 +37,9 @@ PLACES = [
     ("power-on-time", 0xF9F6, 0x00), ("reset-status", 0xFBF0, 0x02), ("exception-status", 0xFBF1, 0x02),
     ("store-status", 0xFBF2, 0x02), ("load-status", 0xFBF4, 0x02)]
 
+# of these, code finds the place from another: the status entries stand in a row
+NOT_READ = ["status-2"]
+
 # rows that the code knows by name
 ROWS = [("device-reset", 0xFBF0, 0x01), ("exception-reset", 0xFBF1, 0x01), ("store-parameters", 0xFBF2, 0x01), ("load-parameters", 0xFBF4, 0x01)]
 
@@ -52,6 +55,9 @@ LATCHED = (0xF390, 0xF398)
 SETTINGS = [
     ("high-enable", 0x01), ("low-enable", 0x02), ("high-level", 0x11), ("low-level", 0x14), ("high-hysteresis", 0x17),
     ("low-hysteresis", 0x18)]
+
+# areas of the index without rows (crates/table/specs/Areas.antt, crates/find/src/area.rt): their first and last index
+EMPTY_AREAS = [(0x0000, 0x0FFF), (0x7000, 0x7FFF), (0xA000, 0xEFFF)]
 
 
 def key(row):
@@ -155,6 +161,10 @@ def broken_rules(rows, end):
         yield "there are %d rows: the table has at most 511, and the search has a page from row 128 on" % len(rows)
     if len(limit_pairs(rows)[0]) > 64:
         yield "there are more than 64 pairs of limits"
+    for row in rows:
+        if any(first <= row["index"] <= last for first, last in EMPTY_AREAS):
+            yield "%04X:%02X lies in an area without rows: open it in crates/table/specs/Areas.antt, crates/find/src/area.rt and here" % (
+                row["index"], row["sub"])
 
 
 def shown(row, field):
@@ -277,8 +287,10 @@ latched r = both (leb 0x%04X (r .index)) (leb (r .index) 0x%04X)
 
 
 def place_rt(rows):
-    text = "// The places in the values that have names. tools/table.py writes this file.\n"
+    text = "// The places in the values that have names, as far as code reads them. tools/table.py writes this file.\n"
     for name, number, what in places(rows):
+        if name in NOT_READ:
+            continue
         text += "\n// %s\npub const %s: usize = %d;\n" % (what, name.replace("-", "_").upper(), number)
     return text
 
