@@ -48,6 +48,9 @@ PLACES = [
     ("power-on-time", 0xF9F6, 0x00), ("reset-status", 0xFBF0, 0x02), ("exception-status", 0xFBF1, 0x02),
     ("store-status", 0xFBF2, 0x02), ("load-status", 0xFBF4, 0x02)]
 
+# of these, code finds the place from another: the status entries stand in a row
+NOT_READ = ["status-2"]
+
 # rows that the code knows by name
 ROWS = [("device-reset", 0xFBF0, 0x01), ("exception-reset", 0xFBF1, 0x01), ("store-parameters", 0xFBF2, 0x01), ("load-parameters", 0xFBF4, 0x01)]
 
@@ -63,6 +66,9 @@ LATCHED = (0xF390, 0xF398)
 SETTINGS = [
     ("high-enable", 0x01), ("low-enable", 0x02), ("high-level", 0x11), ("low-level", 0x14), ("high-hysteresis", 0x17),
     ("low-hysteresis", 0x18)]
+
+# areas of the index without rows (crates/table/specs/Areas.antt, crates/find/src/area.rt): their first and last index
+EMPTY_AREAS = [(0x0000, 0x0FFF), (0x7000, 0x7FFF), (0xA000, 0xEFFF)]
 
 
 def key(row):
@@ -205,6 +211,8 @@ def row_problems(row):
         yield "is a ULINT that does not take every number of its 8 bytes"
     if row["def"] >= 2**32:
         yield "has a default of more than 32 bits, which the columns do not hold"
+    if any(first <= row["index"] <= last for first, last in EMPTY_AREAS):
+        yield "lies in an area without rows: open it in crates/table/specs/Areas.antt, crates/find/src/area.rt and tools/table.py"
 
 
 def table_problems(rows, end):
@@ -219,7 +227,8 @@ def table_problems(rows, end):
         yield "there are more than 64 pairs of limits"
     there = {(row["index"], row["sub"]) for row in rows}
     settings = [(name, index, sub) for index in (0x800E, 0x800F) for name, sub in SETTINGS]
-    for name, index, sub in PLACES + ROWS + settings:
+    behind = [("the one behind " + name, index, sub) for name, index, sub in BEHIND]
+    for name, index, sub in PLACES + behind + ROWS + settings:
         if (index, sub) not in there:
             yield "there is no row %04X:%02X, which the code knows as %s" % (index, sub, name)
 
@@ -360,8 +369,10 @@ latched r = both (leb 0x%04X (r .index)) (leb (r .index) 0x%04X)
 
 
 def place_rt(rows):
-    text = "// The places in the values that have names. tools/table.py writes this file.\n"
+    text = "// The places in the values that have names, as far as code reads them. tools/table.py writes this file.\n"
     for name, number, what in places(rows):
+        if name in NOT_READ:
+            continue
         text += "\n// %s\npub const %s: usize = %d;\n" % (what, name.replace("-", "_").upper(), number)
     return text
 

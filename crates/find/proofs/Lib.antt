@@ -1,4 +1,3 @@
 pub mod Shapes
 pub mod ColumnLaws
 pub mod Way
-pub mod AreaLaws

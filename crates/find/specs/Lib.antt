@@ -1,4 +1,3 @@
 pub mod Pairs
 pub mod Columns
 pub mod Search
-pub mod Areas

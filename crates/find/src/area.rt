@@ -1,6 +1,6 @@
 // The areas of the index: where the table has no rows, an index is absent and no column is read.
 ghost use mathlib.Core.Path.{_≡_};
-ghost use Rattle.find.specs.Areas.{in-empty-area};
+ghost use Rattle.table.specs.Areas.{in-empty-area};
 
 pub fn is_empty(index: u32) -> bool
     ensures { λ r. ⌜ r ≡ in-empty-area index ⌝ }

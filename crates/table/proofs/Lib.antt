@@ -3,6 +3,7 @@ pub mod Rules
 pub mod Widths
 pub mod Searched
 pub mod Table
+pub mod Areas
 pub mod Placed
 pub mod CommandRows
 pub mod DefaultWords

@@ -4,3 +4,4 @@ pub mod Walk
 pub mod Rule
 pub mod Find
 pub mod Places
+pub mod Areas

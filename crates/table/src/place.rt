@@ -1,4 +1,4 @@
-// The places in the values that have names. tools/table.py writes this file.
+// The places in the values that have names, as far as code reads them. tools/table.py writes this file.
 
 // 2003:00
 pub const LOCK: usize = 236;
@@ -17,9 +17,6 @@ pub const UNDERRANGE: usize = 244;
 
 // 600E:01
 pub const STATUS_1: usize = 247;
-
-// 600F:01
-pub const STATUS_2: usize = 249;
 
 // 800E:01
 pub const SETTINGS_1: usize = 258;

@@ -3,7 +3,7 @@ use native.Mathlib.Omega.{arith}
 use borrow.Author.Needs.{needs}
 use Rattle.table.specs.Rows.{rows}
 use Rattle.table.specs.Rule.{key}
-use Rattle.find.proofs.AreaLaws.{empty-area}
+use Rattle.find.proofs.Way.{empty-area}
 use Rattle.find.proofs.find_upper.Statement.{statement}
 use Rattle.find.proofs.find_upper.Tie as tie
 

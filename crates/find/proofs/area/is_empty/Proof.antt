@@ -1,8 +1,8 @@
 -- `find::area::is_empty`: each arm is an area. Assumes nothing.
 use mathlib.Core.Path.{refl, sym}
 use native.Mathlib.Omega.{arith}
-use Rattle.find.specs.Areas.{areas}
-use Rattle.find.proofs.AreaLaws.{first-area, next-area, behind-all}
+use Rattle.table.specs.Areas.{areas}
+use Rattle.table.proofs.Areas.{first-area, next-area, behind-all}
 use Rattle.find.proofs.area.is_empty.Statement.{statement}
 use Rattle.find.proofs.area.is_empty.Tie as tie
 

@@ -1,23 +1,23 @@
 -- The area that an index lies in, and that an index of an area without rows is absent. Assumes nothing.
-use mathlib.Core.Path.{_≡_, refl, sym, _∙_}
-use mathlib.Core.Bool.{Bool, true, false, not}
+use mathlib.Core.Path.{_≡_, refl}
+use mathlib.Core.Bool.{Bool, true, not}
 use mathlib.Core.List.{List, [], _∷_}
 use mathlib.Core.Logic.{⊎-elim}
-use Prim.Native.Nat.{ℕ, zero, suc, _/_, _%_, _<_, _≤_}
+use Prim.Native.Nat.{ℕ, zero, suc, _<_, _≤_}
 use native.Mathlib.Nat.{le-of-suc-le-suc, not-suc-le-zero}
 use native.Mathlib.Omega.{arith}
 use lib.Dec.{T, ltb, ltb→lt}
 use lib.ListN.{length, getD}
 use borrow.Author.Tests.{lt-leb, le-leb}
 use Rattle.table.specs.Row.{Row, no-row}
 use Rattle.table.specs.Rows.{rows}
 use Rattle.table.specs.Walk.{every, linked, chain}
+use Rattle.table.specs.Find.{find-row}
+use Rattle.table.specs.declared.Found.the-variants.{NoIndex}
 use Rattle.table.proofs.Walks.{every-at, chain-far, lt-or-ge}
 use Rattle.table.proofs.Table.{no-index-find}
 use Rattle.table.proofs.Searched.{No-index}
-use Rattle.find.specs.Areas.{Area, area, areas, empty-in, in-empty-area}
-use Rattle.find.specs.Search.{find-key, with-shape}
-use Rattle.find.specs.declared.Sought.the-variants.{NoIndex as NoIndex'}
+use Rattle.table.specs.Areas.{Area, area, areas, empty-in, in-empty-area}
 
 abbrev at-area : List Area → ℕ → Area
 at-area xs k = getD xs k (area 0 true)
@@ -65,9 +65,8 @@ rows-in-areas : T (every (λ (r : Row). not (in-empty-area (r .index))) rows)
 unfolding every empty-in areas rows
 rows-in-areas = tt
 
-none-there : (i : ℕ) → in-empty-area i ≡ true → No-index rows i
-none-there i e m h q = rw (q, e) at (every-at (λ (r : Row). not (in-empty-area (r .index))) rows no-row rows-in-areas m h)
-
-pub empty-area : (k : ℕ) {b : Bool} → b ≡ in-empty-area (k / 256) → b ≡ true → NoIndex' ≡ with-shape (find-key k)
-unfolding with-shape
-empty-area k e h = rw (no-index-find (k / 256) (k % 256) (none-there (k / 256) (sym e ∙ h)))
+pub area-absent : (i s : ℕ) → in-empty-area i ≡ true → find-row i s ≡ NoIndex
+area-absent i s e = no-index-find i s none
+  where
+    none : No-index rows i
+    none m h q = rw (q, e) at (every-at (λ (r : Row). not (in-empty-area (r .index))) rows no-row rows-in-areas m h)
