@@ -1,4 +1,4 @@
-/* The board as C firmware calls it: power-up, document 01's examples, refusals, samples and the image. Every buffer stands between
+/* The board as C firmware calls it: power-up, the examples of docs/RULES.md, refusals, samples and the image. Every buffer stands between
  * guard bytes. Prints what fails; the exit status is 0 if nothing does. */
 #include "gauge.h"
 

@@ -199,7 +199,6 @@ class Definitions:
 
 CALLS = [("crates/board/specs/Calls.antt", name) for name in ("message-call", "power-up-call", "sample-call", "image-call")]
 FIRMWARE = "crates/demand3/specs/Firmware.antt"
-PROMISED = "crates/demand3/specs/Promised.antt"
 # the questions of a reader: what is stated, and what the statement is about whatever it says, so that it need not be believed for it
 ASKED = [
     ("Calls", CALLS, []),
@@ -209,7 +208,10 @@ ASKED = [
     ("`talk`", [
         ("crates/dialogue/specs/Text.antt", "spoken"), ("crates/dialogue/specs/Lines.antt", "lines"),
         ("crates/talk/specs/Turns.antt", "taken"), ("crates/talk/specs/Run.antt", "after-lines")], CALLS),
-    ("Boards", [(PROMISED, name) for name in ("Meets", "Power-up-promised", "Sample-promised", "Image-promised")], CALLS),
+    ("Boards", [
+        ("crates/demand3/specs/%s.antt" % file, name) for file, names in (
+            ("Promised", "Meets Power-up-promised Sample-promised Image-promised"), ("Refused", "Aborts Sends Forgets Fakes"),
+            ("Conversation", "gives expected"), ("Examples", "cases"), ("CoatingShop", "story")) for name in names.split()], CALLS),
 ]
 
 

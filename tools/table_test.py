@@ -195,6 +195,11 @@ def broken_rules(folder):
     number = number_of("2003:00")
     row = LINES[number - 1]
     refused(folder, "a row twice", page({number: f"{row}\n{row}"}), number + 1, "2003:00 does not come after the row before it")
+    for index in ("0001", "7000", "CFFF"):
+        added = row.replace("| 2003 |", f"| {index} |")
+        before = next(n for n, line in enumerate(LINES, 1) if n > HEADER + 1 and line[2:6] > index)
+        refused(folder, f"a row {index} in an area without rows", page({before: f"{added}\n{LINES[before - 1]}"}), before,
+                f"{index}:00 lies in an area without rows: open it in crates/table/specs/Areas.antt, crates/find/src/area.rt and tools/table.py")
     refused(folder, "rows turned round", page({number: LINES[number], number + 1: row}), number + 1,
             "2003:00 does not come after the row before it")
 
@@ -220,7 +225,8 @@ def whole_table(folder):
              "there are more than 64 pairs of limits"),
     ]:
         refused(folder, name, text, 0, reason)
-    for key, name in (("2003:00", "lock"), ("FBF2:01", "store-parameters"), ("800F:17", "high-hysteresis")):
+    for key, name in (
+            ("2003:00", "lock"), ("FBF2:01", "store-parameters"), ("800F:17", "high-hysteresis"), ("600E:02", "the one behind status-1")):
         number = number_of(key)
         text = page({number: LINES[number - 1].replace(f"| {key[:4]} | {key[5:]} |", f"| {key[:4]} | {int(key[5:], 16) + 4:02X} |")})
         lay(folder, text)

@@ -1,4 +1,4 @@
-//! The documents against each other and against the calls: the object table's two printed forms, its rule, document 01's examples
+//! The documents against each other and against the calls: the object table's two printed forms, its rule, the examples
 //! A to K, and the coating shop's story.
 
 use board_tests::board::Desk;

@@ -26,7 +26,7 @@ fn sized(bytes: &[u8], size: usize) -> Vec<u8> {
     bytes
 }
 
-/// The number that document 01's order gives.
+/// The number that the order of R13.6 gives.
 fn expected(values: usize, block: usize, state: usize, line: u32, room: usize, message: &[u8]) -> u32 {
     if values != 1024 || block != 512 || state != 256 {
         4

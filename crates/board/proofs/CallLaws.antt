@@ -21,8 +21,8 @@ use Rattle.sdo.specs.Eight.{messageOf}
 use Rattle.sdo.specs.Replies.{Reply}
 use Rattle.sdo.specs.Records.{Spoken, allZero, speak}
 use Rattle.sdo.proofs.RecordLaws.{Whole}
-use Rattle.state.specs.State.{record-place, record-at, record-bytes, trips-place, trips-at, trips-bytes, dropped}
-use Rattle.line.specs.Answering.{is-abort, reply-to, Acted, act-by, settled, Told, told, told-by, answered}
+use Rattle.state.specs.State.{record-place, record-at, record-bytes, trips-place, trips-at, trips-bytes, dropped, settled}
+use Rattle.line.specs.Answering.{is-abort, reply-to, Acted, act-by, Told, told, told-by, answered}
 use Rattle.board.specs.Gauge.{sampled, bag552}
 use Rattle.board.specs.Calls.{Lent, store-of, sized, called, number-by, served, message-call, powered, power-up-call, fed, fed-by, sample-call, shown, image-call}
 use Rattle.board.proofs.Spoken.{spoken-by, speak-is, given-up}

@@ -11,8 +11,7 @@ use Rattle.sample.specs.Image.{image-of}
 use Rattle.gauge.specs.Memory.{Store, memory-of}
 use Rattle.gauge.specs.PowerUp.{fresh-values}
 use Rattle.sdo.specs.Records.{Spoken, speak}
-use Rattle.state.specs.State.{record-place, record-at, trips-place, trips-at, trips-bytes, dropped}
-use Rattle.line.specs.Answering.{settled}
+use Rattle.state.specs.State.{record-place, record-at, trips-place, trips-at, trips-bytes, dropped, settled}
 use Rattle.board.specs.Gauge.{sampled, bag552}
 
 -- ---- what the lent bytes say

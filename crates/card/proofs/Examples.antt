@@ -1,4 +1,4 @@
--- Case K of document 01 and cards that are refused, by computation. Assumes nothing.
+-- Example K and cards that are refused, by computation. Assumes nothing.
 use mathlib.Core.Path.{_≡_, refl}
 use mathlib.Core.List.{List, [], _∷_, _++_, map}
 use Prim.Native.Nat.{ℕ, _+_}
@@ -18,7 +18,7 @@ abbrev pub half-low : List ℕ
 half-low =
     put-number (put-number (put-number (replicate 1024 0) (settings-1 + low-enable) 1 1) (settings-1 + low-level) 4 0x3f000000) (settings-1 + low-hysteresis) 4 0x3e000000
 
--- "card byte 0 is 14, byte 9 FC, byte 13 F8, others 00"
+-- byte 0 is 14, byte 9 FC, byte 13 F8, others 00
 abbrev pub half-low-card : List ℕ
 half-low-card = 0x14 ∷ (replicate 8 0 ++ (0xFC ∷ (replicate 3 0 ++ (0xF8 ∷ replicate 19 0))))
 

@@ -29,8 +29,8 @@ use Rattle.sdo.specs.Records.{allZero, Spoken, speak, RecordBoard, recordsAfter
 use Rattle.sdo.proofs.RecordLaws.{Whole, Small, served-small}
 use Rattle.sdo.proofs.Demand.{spoken-eight, unfinished}
 use Rattle.sdo.proofs.DemandRecords.{next-served, next-whole, WholeBoard, follows}
-use Rattle.state.specs.State.{record-place, record-at, record-bytes, trips-place, trips-at, trips-bytes, dropped}
-use Rattle.line.specs.Answering.{is-abort, Acted, settled}
+use Rattle.state.specs.State.{record-place, record-at, record-bytes, trips-place, trips-at, trips-bytes, dropped, settled}
+use Rattle.line.specs.Answering.{is-abort, Acted}
 use Rattle.board.specs.Gauge.{Sample, sampled, bag552}
 use Rattle.board.specs.Calls.{Called, Fed, store-of, sized, called, number-by, served, message-call, power-up-call, powered, fed-by, sample-call}
 use Rattle.board.proofs.Spoken.{spoken-by, speak-is, given-up}

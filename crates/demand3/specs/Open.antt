@@ -28,8 +28,7 @@ use Rattle.order.specs.Serve.{readOpening, givePart, readPart, conclude, takePa
 use Rattle.sdo.specs.Eight.{choice, openingBy, messageOf, asked, askOf, answerOf, abortOf, tellOf}
 use Rattle.sdo.specs.Lines.{eight}
 use Rattle.sdo.specs.Records.{numberOf, allows, counts, pending, view, base, lay, speak}
-use Rattle.state.specs.State.{record-place, direction-of, direction-byte, record-at, record-tail, record-bytes, trips-at, trips-bytes, dropped}
-use Rattle.line.specs.Answering.{settled}
+use Rattle.state.specs.State.{record-place, direction-of, direction-byte, record-at, record-tail, record-bytes, trips-at, trips-bytes, dropped, settled}
 use Rattle.board.specs.Calls.{sized, number-by, served, message-call, power-up-call}
 use Rattle.demand3.specs.Firmware.{exported, history, final, power-on, line-of, answer-by, event-of, with-event, events, observed}
 

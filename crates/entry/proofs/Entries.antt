@@ -45,7 +45,7 @@ module _ (xs : List Row) (pass : T (table-ok xs)) where
     pub all-byte : (i : ℕ) → Beside-all xs i 1 → getD (defaults xs values) i 0 ≡ getD values i 0
     all-byte i b = defaults-byte 1024 xs inside values long i b
 
-  -- on zeros, "bytes of no entry zero"
+  -- on zeros: bytes of no entry are zero (R9.2)
   pub all-zero : (i : ℕ) → Beside-all xs i 1 → getD (defaults xs (replicate 1024 0)) i 0 ≡ 0
   all-zero i b = all-byte (replicate 1024 0) (length-replicate {A = ℕ} 1024 0) i b ∙ zero-at 1024 i
 

@@ -1,6 +1,6 @@
--- What a reader of document 01 asks of whole reads, writes and commands, one law for each sentence. Assumes nothing.
+-- What a reader of the rules asks of whole reads, writes and commands, one law for each. Assumes nothing.
 use mathlib.Core.Path.{_≡_, refl, sym, ap, _∙_}
-use mathlib.Core.Bool.{Bool, true, false, cond, _&&_, _||_, or-true}
+use mathlib.Core.Bool.{Bool, true, false, cond, _||_, or-true}
 use mathlib.Core.List.{List}
 use mathlib.Core.Option.{Option, none, some}
 use Prim.Native.Nat.{ℕ, _+_, _<_, _≤_}
@@ -49,7 +49,7 @@ use Rattle.gauge.specs.declared.commit.Ending.the-variants.{Refused}
 use Rattle.gauge.proofs.InOrder.{each-passes}
 use Rattle.gauge.proofs.CommitLaws.{of-card, of-other, other-held, card-length, limits-first, card-judged}
 
--- "The lock .. never [refuses writes] to itself"
+-- R7.9
 pub lock-open : (s : Said) (bytes values : List ℕ) → fails under-lock (asked (find-row 0x2003 0) s bytes values) ≡ false
 unfolding fails row-number locked guarded rows
 lock-open s bytes values = rw lock-found
@@ -59,7 +59,7 @@ pub refused-keeps : (row : ℕ) (bytes : List ℕ) (m : Memory) (c : ℕ) → co
 unfolding left-by
 refused-keeps row bytes m c e = rw e
 
--- "Device reset answers, then does power-up"
+-- R8.8
 pub reset-is-power-up : (m : Memory) → obeyed DeviceReset (word-of DeviceReset) m ≡ restarted (powered-up m)
 unfolding obeyed same-bytes word-of done
 reset-is-power-up m = refl
@@ -119,7 +119,7 @@ card-write-read k there card bytes small m n long size e =
 
 -- ---- what a command leaves
 
--- the entries that document 01 names for a command: its own status and response; "the latched words" and the summary; the NV entries
+-- the entries that the rules name for a command: its own status and response (R8.3); latched words and summary (R8.7); the NV entries (R8.5)
 unfoldable pub named : Command → Row → Bool
 named DeviceReset r = eqb (r .index) 0xFBF0
 named ExceptionReset r = eqb (r .index) 0xFBF1 || (eqb (r .index) 0xF380 || latched r)

@@ -20,8 +20,8 @@ use Rattle.sdo.specs.Eight.{answerOf}
 use Rattle.sdo.specs.Lines.{short}
 use Rattle.sdo.specs.Records.{allZero, keyAt, counts}
 use Rattle.sdo.specs.Replies.{Act, Done, Reply, ending, going, committing, refusal, is-reading, givenReply, nextPartReply, openReadReply, openWriteBy, openWriteReply}
-use Rattle.state.specs.State.{record-bytes}
-use Rattle.line.specs.Answering.{through, open-read, concluded, act-by, Kept, kept, replied, Told, told, told-by, answered, settled}
+use Rattle.state.specs.State.{record-bytes, settled}
+use Rattle.line.specs.Answering.{through, open-read, concluded, act-by, Kept, kept, replied, Told, told, told-by, answered}
 
 -- ---- the record in the state, and the answer
 

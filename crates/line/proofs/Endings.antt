@@ -15,7 +15,8 @@ use Rattle.gauge.specs.declared.commit.Ending.{Ending}
 use Rattle.gauge.specs.declared.commit.Ending.the-variants.{Accepted, Restarted, Refused}
 use Rattle.sdo.specs.Eight.{answerOf}
 use Rattle.sdo.specs.Records.{allZero, keyAt}
-use Rattle.line.specs.Answering.{acted, concluded, told, told-by, state-by, eight-by, settled}
+use Rattle.state.specs.State.{settled}
+use Rattle.line.specs.Answering.{acted, concluded, told, told-by, state-by, eight-by}
 
 module _ (m : Memory) (row : ℕ) (eight v b : List ℕ) {e : Ending} where
   accepted-end : (o : Outcome Memory) → gauge.left e v b ≡ left-by m o → e ≡ Accepted → acted (memory-of v b) allZero false eight ≡ concluded m row eight o

@@ -1,7 +1,7 @@
 -- SHAPE: the reply to a message, by what it says, as the code makes it; `speak` of crate sdo is what the calls are held to, and
 -- board/proofs/Spoken shows that the two agree. Assumes nothing.
 use mathlib.Core.List.{List}
-use mathlib.Core.Bool.{Bool, true, false, cond}
+use mathlib.Core.Bool.{Bool, true, false}
 use mathlib.Core.Path.{_≡_}
 use Prim.Native.Nat.{ℕ, _+_, _≤_}
 use lib.ListN.{length, take, drop}
@@ -23,7 +23,7 @@ use Rattle.sdo.specs.declared.Message.the-variants.{SendPart, OpenWrite, OpenRe
 use Rattle.sdo.specs.Eight.{answerOf}
 use Rattle.sdo.specs.Records.{allZero, keyAt}
 use Rattle.sdo.specs.Replies.{Act, Done, Commit, Reply, ending, nextPartReply, sendPartReply, filled, openReadReply, openWriteReply, expeditedReply}
-use Rattle.state.specs.State.{record-bytes, dropped}
+use Rattle.state.specs.State.{record-bytes, settled}
 
 -- where there is no way, the answer is the code
 unfoldable pub through : Way → Key → (ℕ → Reply) → Reply
@@ -82,10 +82,6 @@ kept state eight = record { state = state; eight = eight }
 
 unfoldable pub replied : ℕ → List ℕ → Reply → Kept
 replied at state r = kept (splice state at (record-bytes (r .next))) (r .eight)
-
--- a device reset drops both lines' transfers (R8.8); a message leaves all else of the state (R6.1)
-unfoldable pub settled : ℕ → Transfer → Bool → List ℕ → List ℕ
-settled at next reset state = cond reset (dropped state) (splice state at (record-bytes next))
 
 -- with the memory
 pub record Told : Type 0 where

@@ -106,7 +106,7 @@ module _ (P : Gauge) where
   left-write-opening g k bytes (sizes low high) = left-part g k low high bytes false false (writeOpened k) refl
   left-write-opening g k bytes (closed c) = left-over g (refused k c)
 
-  -- THEOREM: "Every abort drops it too", and leaves the store as it was
+  -- THEOREM: every abort drops its transfer (R6.2) and leaves the store as it was (R7.10)
   pub aborts-drop : (form : Form) (g : P .Store) (x : Pending (P .Key)) (a : Request (P .Key)) → Dropped g (serve P form g x a)
   unfolding serve isAbort
   aborts-drop form g x (openRead k) = left-read-opening form g k (P .readWhole g k)

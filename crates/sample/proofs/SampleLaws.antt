@@ -245,20 +245,15 @@ module _ (l : List ℕ) (was : Trips) (p : Float) (valid faults seconds : ℕ) (
   pub low-2-shown : is-set (values-after l was p valid faults seconds) (status-2 + 1) ≡ trips-after l was p valid .two .low
   low-2-shown = set-back _ (status-2 + 1) _ (number-after (status-2 + 1) 1 _ refl refl refl)
 
-  -- a point's output is the or of its two status entries, and of its two bits of F641
-  pub output-1-by-status : output (trips-after l was p valid .one) ≡ is-set (values-after l was p valid faults seconds) status-1 || is-set (values-after l was p valid faults seconds) (status-1 + 1)
+  -- each point's output is the or of its two status entries, and of its two bits of F641
+  pub outputs-by-status : let v = values-after l was p valid faults seconds in
+      (output (trips-after l was p valid .one) ≡ is-set v status-1 || is-set v (status-1 + 1)) × (output (trips-after l was p valid .two) ≡ is-set v status-2 || is-set v (status-2 + 1))
   unfolding output
-  output-1-by-status = rw (high-1-shown, low-1-shown)
+  outputs-by-status = (rw (high-1-shown, low-1-shown), rw (high-2-shown, low-2-shown))
 
-  pub output-2-by-status : output (trips-after l was p valid .two) ≡ is-set (values-after l was p valid faults seconds) status-2 || is-set (values-after l was p valid faults seconds) (status-2 + 1)
-  unfolding output
-  output-2-by-status = rw (high-2-shown, low-2-shown)
-
-  pub output-1-by-word : output (trips-after l was p valid .one) ≡ set-in (number (values-after l was p valid faults seconds) trip-outputs 4) 0 || set-in (number (values-after l was p valid faults seconds) trip-outputs 4) 1
-  output-1-by-word = rw outputs-shown (word-outputs (trips-after l was p valid) .0)
-
-  pub output-2-by-word : output (trips-after l was p valid .two) ≡ set-in (number (values-after l was p valid faults seconds) trip-outputs 4) 2 || set-in (number (values-after l was p valid faults seconds) trip-outputs 4) 3
-  output-2-by-word = rw outputs-shown (word-outputs (trips-after l was p valid) .1)
+  pub outputs-by-word : let w = number (values-after l was p valid faults seconds) trip-outputs 4 in
+      (output (trips-after l was p valid .one) ≡ set-in w 0 || set-in w 1) × (output (trips-after l was p valid .two) ≡ set-in w 2 || set-in w 3)
+  outputs-by-word = rw outputs-shown (word-outputs (trips-after l was p valid))
 
   -- ---- the settings stay
 

@@ -1,4 +1,4 @@
--- Example K of document 01 on the whole 1,024 values, then a NaN, and an image: by computation. Assumes nothing.
+-- Example K on the whole 1,024 values, then a NaN, and an image: by computation. Assumes nothing.
 use mathlib.Core.Path.{_≡_, refl}
 use mathlib.Core.List.{List, [], _∷_}
 use Prim.Native.Nat.{ℕ, _+_}

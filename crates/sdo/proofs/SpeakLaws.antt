@@ -296,7 +296,7 @@ module _ (E : Entries) where
   first-of noTransfer e = refl
   first-of silent e = absurd (omega (arith, e))
 
-  -- THEOREM: "Every abort drops it too"; "An abort answer .. leaves values and block as they were"
+  -- THEOREM: every abort drops its transfer (R6.2) and leaves the store as it was (R7.10)
   pub abort-drops : (g : E .Store) (t : Transfer) (m : List ℕ) → getD ((speak E g t m) .bytes) 0 0 ≡ 0x80 → speak E g t m ≡ acted E g (ending ((speak E g t m) .bytes))
   unfolding speak
   abort-drops g t m e =

@@ -1,5 +1,5 @@
 -- RULE: the 256 state bytes, as docs/STATE.md lays them out (R14.1): both transfer records and the trip states. Assumes nothing.
-use mathlib.Core.Bool.{cond}
+use mathlib.Core.Bool.{Bool, cond}
 use mathlib.Core.List.{List, _++_}
 use Prim.Native.Nat.{ℕ, _+_, _*_}
 use lib.Dec.{eqb}
@@ -64,3 +64,7 @@ trips-bytes t = flags (t .one .high) (t .one .low) (t .two .high) (t .two .low)
 -- power-up and device reset (R9.3)
 unfoldable pub dropped : List ℕ → List ℕ
 dropped state = splice (splice (splice state 0 (record-bytes allZero)) 96 (record-bytes allZero)) trips-place (trips-bytes all-off)
+
+-- a message leaves its line's next record; a device reset drops both lines' transfers (R8.8). All else of the state stays (R6.1)
+unfoldable pub settled : ℕ → Transfer → Bool → List ℕ → List ℕ
+settled at next reset state = cond reset (dropped state) (splice state at (record-bytes next))

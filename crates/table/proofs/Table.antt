@@ -89,7 +89,7 @@ row-found i s r k = go (find-row i s) refl
     go NoIndex e = absurd (find-no-index i s e r l (k .index-is))
     go NoSub e = absurd (find-no-sub i s e r l (k .index-is) (k .sub-is))
 
--- document 01's examples A, D and E: the lock has a row, its subindex 01 has none, index 2004 has none
+-- examples A, D and E: the lock has a row, its subindex 01 has none, index 2004 has none
 pub lock-found : find-row 0x2003 0 ≡ At lock-row
 unfolding find-row find-from rows
 lock-found = refl

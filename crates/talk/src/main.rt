@@ -1,5 +1,4 @@
-// Reads lines "line message" from standard input, as they come, and prints line and answer in capital hex, `-` for none and `?` for a
-// line that is no message. The board starts on a zero block, from power-up.
+// Serves the text lines of standard input as they come (R17.1, R17.2). The board starts on a zero block, from power-up (R17.3).
 mod serve;
 
 use dialogue::Pending;

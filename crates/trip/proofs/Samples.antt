@@ -1,4 +1,4 @@
--- Example K of document 01, by computation. Assumes nothing.
+-- Example K, by computation. Assumes nothing.
 use mathlib.Core.Path.{_≡_, refl}
 use mathlib.Core.Bool.{Bool, true, false}
 use mathlib.Core.List.{List, [], _∷_}

@@ -1,5 +1,5 @@
 // Runs the proved card and block on vectors worked by hand, and prints "ok NAME" for each, or "DIFFERS NAME" where the function
-// gives something else. Beside each vector stands how its bytes come about, from document 01's two format paragraphs and the
+// gives something else. Beside each vector stands how its bytes come about, from docs/RULES.md, chapters 3 and 4, and the
 // places and NV entries of docs/object-table.md.
 mod blocks;
 mod cards;

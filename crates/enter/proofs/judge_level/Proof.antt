@@ -1,4 +1,4 @@
--- `judge_level` is `level-verdict`: the limits are the ranks of document 01's.
+-- `judge_level` is `level-verdict`: the limits are the ranks of R2.6's.
 use mathlib.Core.Path.{_∙_}
 use Rattle.enter.proofs.Judged.{level-ranked}
 use borrow.Author.Needs.{needs}

@@ -1,6 +1,7 @@
 -- `line::write::conclude`: by the ending. Assumes nothing.
 use borrow.Author.Needs.{needs}
-use Rattle.line.specs.Answering.{settled, state-by}
+use Rattle.state.specs.State.{settled}
+use Rattle.line.specs.Answering.{state-by}
 use Rattle.line.proofs.write.conclude.Statement.{statement}
 use Rattle.line.proofs.write.conclude.Tie as tie
 
