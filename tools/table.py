@@ -163,7 +163,7 @@ def broken_rules(rows, end):
         yield "there are more than 64 pairs of limits"
     for row in rows:
         if any(first <= row["index"] <= last for first, last in EMPTY_AREAS):
-            yield "%04X:%02X lies in an area without rows: open it in crates/table/specs/Areas.antt, crates/find/src/area.rt and here" % (
+            yield "%04X:%02X lies in an area without rows: open it in crates/table/specs/Areas.antt, crates/find/src/area.rt and tools/table.py" % (
                 row["index"], row["sub"])
 
 
