@@ -7,7 +7,7 @@ mod page;
 use table::Found;
 use wire::wide;
 ghost use mathlib.Core.Path.{_≡_};
-ghost use Prim.Native.Nat.{_+_, _/_, _<_, _≤_};
+ghost use Prim.Native.Nat.{_+_, _/_, _≤_};
 ghost use lib.Dec.{eqb};
 ghost use Rattle.table.specs.Rows.{at-row};
 ghost use Rattle.table.specs.Rule.{key as row-key};
@@ -92,12 +92,16 @@ fn search_rest(keys: &[u32], key: u32) -> Found
     search(keys, 127 + d, key)
 }
 
-// ---- by pages: each function lays out the keys and shapes of its own rows, as in page.rt
+// ---- by pages: each function lays out the keys and shapes of its own rows, as in page.rt, and reads none for a key in an area without
+// rows. On a page that lies inside areas with rows the compiler sees the answer and leaves the question out.
 
 fn find_from_0(key: u32) -> Sought
     requires { ⌜ Near 31 0 key ⌝ }
     ensures { λ r. ⌜ r ≡ with-shape (find-key key) ⌝ }
 {
+    if area::is_empty(key) {
+        return Sought::NoIndex;
+    }
     let found = search(&columns::KEY, 0, key);
     match found {
         Found::At(row) => Sought::Row(row, page::shape_from_0(row)),
@@ -110,6 +114,9 @@ fn find_from_32(key: u32) -> Sought
     requires { ⌜ Near 32 31 key ⌝ }
     ensures { λ r. ⌜ r ≡ with-shape (find-key key) ⌝ }
 {
+    if area::is_empty(key) {
+        return Sought::NoIndex;
+    }
     let found = search(&columns::KEY, 31, key);
     match found {
         Found::At(row) => Sought::Row(row, page::shape_from_32(row)),
@@ -122,6 +129,9 @@ fn find_from_64(key: u32) -> Sought
     requires { ⌜ Near 32 63 key ⌝ }
     ensures { λ r. ⌜ r ≡ with-shape (find-key key) ⌝ }
 {
+    if area::is_empty(key) {
+        return Sought::NoIndex;
+    }
     let found = search(&columns::KEY, 63, key);
     match found {
         Found::At(row) => Sought::Row(row, page::shape_from_64(row)),
@@ -134,6 +144,9 @@ fn find_from_96(key: u32) -> Sought
     requires { ⌜ Near 32 95 key ⌝ }
     ensures { λ r. ⌜ r ≡ with-shape (find-key key) ⌝ }
 {
+    if area::is_empty(key) {
+        return Sought::NoIndex;
+    }
     let found = search(&columns::KEY, 95, key);
     match found {
         Found::At(row) => Sought::Row(row, page::shape_from_96(row)),
@@ -146,6 +159,9 @@ fn find_from_128(key: u32) -> Sought
     requires { ⌜ Near 512 127 key ⌝ }
     ensures { λ r. ⌜ r ≡ with-shape (find-key key) ⌝ }
 {
+    if area::is_empty(key) {
+        return Sought::NoIndex;
+    }
     let found = search_rest(&columns::KEY, key);
     match found {
         Found::At(row) => Sought::Row(row, page::shape_from_128(row)),
@@ -168,13 +184,17 @@ fn find_first(key: u32) -> Sought
     Sought::NoIndex
 }
 
-// The area is asked for on each side of row 63, where the compiler sees which areas are in reach.
-fn find_lower(key: u32) -> Sought
-    requires { ⌜ key ≤ row-key (at-row 63) ⌝ }
+fn find_key(key: u32) -> Sought
     ensures { λ r. ⌜ r ≡ with-shape (find-key key) ⌝ }
 {
-    if area::is_empty(key / 256) {
-        return Sought::NoIndex;
+    if columns::KEY_63 < key {
+        if columns::KEY_127 < key {
+            return find_from_128(key);
+        }
+        if columns::KEY_95 < key {
+            return find_from_96(key);
+        }
+        return find_from_64(key);
     }
     if columns::KEY_31 < key {
         return find_from_32(key);
@@ -183,31 +203,6 @@ fn find_lower(key: u32) -> Sought
         return find_from_0(key);
     }
     find_first(key)
-}
-
-fn find_upper(key: u32) -> Sought
-    requires { ⌜ row-key (at-row 63) < key ⌝ }
-    ensures { λ r. ⌜ r ≡ with-shape (find-key key) ⌝ }
-{
-    if area::is_empty(key / 256) {
-        return Sought::NoIndex;
-    }
-    if columns::KEY_127 < key {
-        return find_from_128(key);
-    }
-    if columns::KEY_95 < key {
-        return find_from_96(key);
-    }
-    find_from_64(key)
-}
-
-fn find_key(key: u32) -> Sought
-    ensures { λ r. ⌜ r ≡ with-shape (find-key key) ⌝ }
-{
-    if columns::KEY_63 < key {
-        return find_upper(key);
-    }
-    find_lower(key)
 }
 
 // The row with the index and subindex, and its shape, or which of the two is absent.
