@@ -3,11 +3,16 @@
 
 use board_tests::independent::Model;
 use board_tests::model::fault::Sound;
+use board_tests::model::table::ROWS;
 use board_tests::subject;
 use board_tests::trace::{apply, difference, shrink, Op, Trace};
 use std::panic::{catch_unwind, AssertUnwindSafe};
 
 const TRACES: u64 = 8_000;
+
+fn row_of(index: u32, sub: u32) -> usize {
+    ROWS.iter().position(|row| row.key == 256 * index + sub).unwrap()
+}
 
 /// A difference, or a guard byte that was written.
 fn differs(trace: &Trace) -> Option<(usize, String)> {
@@ -61,10 +66,11 @@ fn traces_meet_everything() {
                         first => meet(format!("answer {first:02X}")),
                     }
                     let ends = message[0] >> 5 == 0 && message[0] & 1 == 1 && answer[0] != 0x80;
-                    if ends && record[64..66] == [31, 0] {
+                    if ends && usize::from(record[64]) + 256 * usize::from(record[65]) == row_of(0x2010, 0x00) {
                         meet("card written".to_string());
                     }
-                    for (name, status) in [("exception reset", 590), ("store", 593), ("load", 596)] {
+                    for (name, index) in [("exception reset", 0xFBF1), ("store", 0xFBF2), ("load", 0xFBF4)] {
+                        let status = usize::from(ROWS[row_of(index, 0x02)].place);
                         if before.values[status] != memory.values[status] {
                             meet(format!("{name} status becomes {}", memory.values[status]));
                         }
