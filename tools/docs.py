@@ -91,13 +91,17 @@ def edit_table():
 # ---- what has to be believed
 
 class Block:
-    """One definition: where it stands, its text, and the names that it uses."""
+    """One definition: its name and its lines."""
 
-    def __init__(self, name, file):
-        self.name, self.file, self.lines = name, file, []
+    def __init__(self, name):
+        self.name, self.lines = name, []
+
+    def is_data(self):
+        return re.match(r"(?:pub )?data ", self.lines[0].strip())
 
 
 SIGNATURE = re.compile(r"^(?:(?:unfoldable|abbrev|pub)\s+)*([^\s(){}:]+)\s+:\s")
+TYPE = re.compile(r"^(?:pub\s+)?(?:record|data)\s+([^\s(){}:]+)")
 
 
 def blocks_of(name):
@@ -118,13 +122,11 @@ def blocks_of(name):
         if text.startswith("module "):
             bodies.append(indent + 2)
             continue
-        if indent == bodies[-1]:
-            kind = re.match(r"^(?:pub\s+)?(record|data)\s+([^\s(){}:]+)", text)
-            start = kind.group(2) if kind else (SIGNATURE.match(text).group(1) if SIGNATURE.match(text) else None)
-            if start:
-                current = blocks.setdefault(start, Block(start, name))
-        elif current and re.match(r"^data|^pub data", current.lines[0].strip()) and SIGNATURE.match(text):
-            names[SIGNATURE.match(text).group(1)] = (name, current.name)
+        start = TYPE.match(text) or SIGNATURE.match(text)
+        if indent == bodies[-1] and start:
+            current = blocks.setdefault(start.group(1), Block(start.group(1)))
+        elif current and current.is_data() and start:
+            names[start.group(1)] = (name, current.name)
         if current:
             current.lines.append(code)
     for block in blocks:
