@@ -1,25 +1,12 @@
 /* The board as C firmware calls it: power-up, the examples of docs/RULES.md, refusals, samples and the image. Every buffer stands between
  * guard bytes. Prints what fails; the exit status is 0 if nothing does. */
+#include "check.h"
 #include "gauge.h"
 
-#include <stdio.h>
 #include <string.h>
 
 #define GUARD 32u
 #define FILL 0xC3u
-
-static unsigned checks, failures;
-
-static void check(int good, const char *what, int line)
-{
-    checks++;
-    if (!good) {
-        failures++;
-        printf("gauge_test.c:%d: %s\n", line, what);
-    }
-}
-
-#define CHECK(good) check((good) != 0, #good, __LINE__)
 
 /* what is lent, each part between guards */
 static struct {
@@ -99,9 +86,9 @@ static void talk(uint32_t line, const char *message, const char *answer, int sou
     unhex(message, in);
     unhex(answer, out);
     number = send(line, in, GAUGE_ANSWER_SIZE);
-    check(number == GAUGE_DONE && same(board.answer, out, 8), message, source);
-    check(all(board.answer + 8, 8, FILL), "later bytes of the room untouched", source);
-    check(guards_hold(), "guard bytes", source);
+    check(number == GAUGE_DONE && same(board.answer, out, 8), message, __FILE__, source);
+    check(all(board.answer + 8, 8, FILL), "later bytes of the room untouched", __FILE__, source);
+    check(guards_hold(), "guard bytes", __FILE__, source);
 }
 
 #define TALK(line, message, answer) talk(line, message, answer, __LINE__)
@@ -303,6 +290,5 @@ int main(void)
     samples();
     commands();
     refusals();
-    printf("C test: %u checks, %u failed\n", checks, failures);
-    return failures == 0 ? 0 : 1;
+    return closed("C test");
 }

@@ -2,6 +2,7 @@
  * old block or the new one, whole. Prints what fails; the exit status is 0 if nothing does.
  *
  *     keep_test FILE        a file to write in */
+#include "check.h"
 #include "gauge.h"
 #include "keep.h"
 #include "medium.h"
@@ -12,19 +13,7 @@
 #define SETTINGS 8u
 #define FILE_SIZE (KEEP_SLOT_DISTANCE + KEEP_SLOT_SIZE)
 
-static unsigned checks, failures;
 static const char *name;
-
-static void check(int good, const char *what, int line)
-{
-    checks++;
-    if (!good) {
-        failures++;
-        printf("keep_test.c:%d: %s\n", line, what);
-    }
-}
-
-#define CHECK(good) check((good) != 0, #good, __LINE__)
 
 /* a board, and levels and hystereses of both trip points as bits */
 static uint8_t values[GAUGE_VALUES_SIZE], block[GAUGE_BLOCK_SIZE], state[GAUGE_STATE_SIZE];
@@ -290,6 +279,5 @@ int main(int words, char **word)
     full();
     bare_block();
     remove(name);
-    printf("keeping the block: %u checks, %u failed\n", checks, failures);
-    return failures == 0 ? 0 : 1;
+    return closed("keeping the block");
 }

@@ -1,24 +1,12 @@
 /* Why firmware sets how REALs are worked out: with another rounding, or with subnormals taken as zero, the board's code gives other
  * trips. For x86-64. Prints what fails; the exit status is 0 if nothing does. */
+#include "check.h"
 #include "gauge.h"
 
 #include <math.h>
 #include <stdio.h>
 #include <string.h>
 #include <xmmintrin.h>
-
-static unsigned checks, failures;
-
-static void check(int good, const char *what, int line)
-{
-    checks++;
-    if (!good) {
-        failures++;
-        printf("reals_test.c:%d: %s\n", line, what);
-    }
-}
-
-#define CHECK(good) check((good) != 0, #good, __LINE__)
 
 /* modes of the processor: as examples/firmware.c sets them, rounding upward, subnormals taken as zero */
 enum { PLAIN, UPWARD, ZEROED };
@@ -99,6 +87,5 @@ int main(void)
     set_mode(PLAIN);
     rounding();
     subnormals();
-    printf("REALs: %u checks, %u failed\n", checks, failures);
-    return failures == 0 ? 0 : 1;
+    return closed("REALs");
 }
