@@ -1,5 +1,5 @@
 -- LENGTHS STAY: the values have 1,024 bytes and the block 512 after every whole write of a row's length, every sample and every power-up.
-use Prim.Native.Nat.{ℕ, _+_, _≤_, _<_}
+use Prim.Native.Nat.{ℕ, _+_, _<_}
 use native.Mathlib.Omega.{arith}
 use mathlib.Core.Path.{_≡_, refl, sym, _∙_}
 use mathlib.Core.Bool.{Bool, true, false, cond}
@@ -8,16 +8,14 @@ use mathlib.Core.Option.{Option, none, some}
 use lib.Dec.{leb, eqb}
 use lib.Ieee.{Float}
 use lib.ListN.{length, replicate}
-use borrow.Author.Tests.{le-leb, leb-true, eqb-false}
-use Rattle.wire.specs.Splice.{splice}
+use borrow.Author.Tests.{eqb-false}
 use Rattle.wire.specs.Little.{put-number}
-use Rattle.wire.proofs.SpliceLaws.{length-splice}
 use Rattle.wire.proofs.LittleLaws.{put-length}
 use Rattle.order.specs.Talk.{Outcome, stored, restarted, declined}
 use Rattle.order.specs.Gauge.{counted}
 use Rattle.table.specs.Row.{Row, CARD, COMMAND}
 use Rattle.table.specs.Rows.{rows, row-count, at-row}
-use Rattle.table.specs.Places.{input-value, trip-input-1, trip-input-2, reading-valid, status-1, status-2, trip-outputs, sensor-error, active-word, latched-status, latched-word, summary-byte, power-on-time}
+use Rattle.table.specs.Places.{input-value, trip-input-1, trip-input-2, reading-valid, status-1, status-2, trip-outputs, sensor-error, active-word, latched-word, summary-byte, power-on-time}
 use Rattle.table.proofs.Table.{rows-length, row-rule}
 use Rattle.entry.proofs.EntryLaws.{length-stored, length-defaults}
 use Rattle.trip.specs.Trip.{usable-pressure}
@@ -26,8 +24,7 @@ use Rattle.card.proofs.Stored.{with-card-length}
 use Rattle.block.proofs.Theorems as saved
 use Rattle.sample.specs.Faults.{with-faults, with-summary}
 use Rattle.sample.specs.Sample.{trips-after, with-reading, with-trips, values-after}
-use Rattle.command.specs.Words.{command-at, status-of, with-status, same-bytes, word-of}
-use Rattle.command.specs.Exceptions.{exceptions-cleared}
+use Rattle.command.specs.Words.{command-at, same-bytes, word-of}
 use Rattle.command.specs.declared.word.Command.{Command}
 use Rattle.command.specs.declared.word.Command.the-variants.{DeviceReset, ExceptionReset, StoreParameters, LoadParameters}
 use Rattle.gauge.specs.Memory.{Memory}
@@ -36,15 +33,13 @@ use Rattle.gauge.specs.Commands.{done, obeyed}
 use Rattle.gauge.specs.Checks.{asked-last, row-number, Test, last-order, refused-by, unless-refused}
 use Rattle.gauge.specs.Whole.{by-type, effect, write-by, commit-row}
 use Rattle.gauge.proofs.CommitLaws.{other-held}
+use Rattle.gauge.proofs.GaugeLaws.{status-length, cleared-length}
 
 abbrev Long : List ℕ → Type 0
 Long l = length l ≡ 1024
 
 put-long : (l : List ℕ) (at n v : ℕ) → leb (at + n) 1024 ≡ true → Long l → Long (put-number l at n v)
 put-long l at n v h e = put-length l at n v (rw e h) ∙ e
-
-splice-long : (l : List ℕ) (at : ℕ) (xs : List ℕ) → leb (at + length xs) 1024 ≡ true → Long l → Long (splice l at xs)
-splice-long l at xs h e = let fits = leb-true (at + length xs) 1024 h in length-splice l at xs (rw e fits) ∙ e
 
 long-cond : (b : Bool) (x y : List ℕ) → Long x → Long y → Long (cond b x y)
 long-cond true x y h k = h
@@ -79,24 +74,7 @@ values-long l was p valid faults seconds e =
     put-long _ power-on-time 4 seconds refl
     (summary-long _ (faults-long faults _ (trips-long (trips-after l was p valid) _ (reading-long p valid l e))))
 
--- ---- commands
-
-status-fits : (c : Command) → status-of c + 2 ≤ 1024
-unfolding status-of
-status-fits DeviceReset = omega arith
-status-fits ExceptionReset = omega arith
-status-fits StoreParameters = omega arith
-status-fits LoadParameters = omega arith
-
-status-long : (c : Command) (code : ℕ) (l : List ℕ) → Long l → Long (with-status c code l)
-unfolding with-status
-status-long c code l e =
-    put-long _ (status-of c + 1) 1 code (le-leb (status-of c + 1 + 1) 1024 (omega (arith, status-fits c)))
-    (put-long l (status-of c) 1 code (le-leb (status-of c + 1) 1024 (omega (arith, status-fits c))) e)
-
-cleared-long : (l : List ℕ) → Long l → Long (exceptions-cleared l)
-unfolding exceptions-cleared
-cleared-long l e = summary-long _ (splice-long l latched-status _ refl e)
+-- ---- commands and power-up
 
 pub fresh-long : (block : List ℕ) → length (fresh-values block) ≡ 1024
 unfolding fresh-values
@@ -120,16 +98,16 @@ done-sized : (c : Command) (m : Memory) → Sized m → SizedAfter (done c m)
 unfolding done powered-up
 done-sized DeviceReset m s = record { values-are = fresh-long (m .block); block-is = s .block-is }
 done-sized ExceptionReset m s =
-    record { values-are = status-long ExceptionReset 0 _ (cleared-long (m .values) (s .values-are)); block-is = s .block-is }
+    record { values-are = status-length ExceptionReset 0 _ (cleared-length (m .values) (s .values-are)); block-is = s .block-is }
 done-sized StoreParameters m s =
-    record { values-are = status-long StoreParameters _ (m .values) (s .values-are); block-is = saved.length-stored (m .values) (m .block) (s .block-is) }
+    record { values-are = status-length StoreParameters _ (m .values) (s .values-are); block-is = saved.length-stored (m .values) (m .block) (s .block-is) }
 done-sized LoadParameters m s =
-    record { values-are = status-long LoadParameters _ _ (saved.length-loaded (m .block) (m .values) (s .values-are)); block-is = s .block-is }
+    record { values-are = status-length LoadParameters _ _ (saved.length-loaded (m .block) (m .values) (s .values-are)); block-is = s .block-is }
 
 obeyed-sized : (c : Command) (bytes : List ℕ) (m : Memory) → Sized m → SizedAfter (obeyed c bytes m)
 unfolding obeyed
 obeyed-sized c bytes m s =
-    sized-cond (same-bytes bytes (word-of c)) _ _ (done-sized c m s) (record { values-are = status-long c 2 (m .values) (s .values-are); block-is = s .block-is })
+    sized-cond (same-bytes bytes (word-of c)) _ _ (done-sized c m s) (record { values-are = status-length c 2 (m .values) (s .values-are); block-is = s .block-is })
 
 -- ---- whole writes
 

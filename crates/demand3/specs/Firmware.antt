@@ -1,5 +1,5 @@
--- RULE: THE C FIRMWARE'S RUN, from power-up (R15.1): a list of calls on three lent arrays, each exactly what the exported call is held to (crate board,
--- specs/Calls.antt). THE OBSERVER is given the calls and what they give back, and never the arrays. DEMAND 3 over both. Assumes nothing.
+-- RULE: THE C FIRMWARE'S RUN, from power-up (R15.1): a list of calls on three lent arrays, each exactly what the exported call is held
+-- to (crate board, specs/Calls.antt). THE OBSERVER is given the calls and what they give back, and never the arrays. DEMAND 3 over both. Assumes nothing.
 use Prim.Native.Nat.{ℕ, _+_, _/_, _<_}
 use mathlib.Core.Path.{_≡_}
 use mathlib.Core.Bool.{Bool, false, cond}

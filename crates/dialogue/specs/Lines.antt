@@ -1,5 +1,5 @@
--- RULE: THE TEXT LINES OF AN INPUT (R17.1), and the same as the bytes come one by one: `told nothing-yet input` is `map spoken (lines input)`, which is
--- the theorem of proofs/Hearing.antt.
+-- RULE: THE TEXT LINES OF AN INPUT (R17.1), and the same as the bytes come one by one: `told nothing-yet input` is
+-- `map spoken (lines input)`, which is the theorem of proofs/Hearing.antt.
 use mathlib.Core.Bool.{Bool, true, false, cond, not, _&&_}
 use mathlib.Core.List.{List, [], _∷_, _++_}
 use Prim.Native.Nat.{ℕ, _+_}

@@ -174,6 +174,10 @@ module _ (c : Command) (code : ℕ) (values : List ℕ) (long : length values �
   half-length : length (splice values (status-of c) (little 1 code)) ≡ 1024
   half-length = length-splice values (status-of c) (little 1 code) (omega (arith, inside-values, length-little 1 code)) ∙ long
 
+  pub status-length : length (with-status c code values) ≡ 1024
+  unfolding with-status
+  status-length = length-splice _ (status-of c + 1) (little 1 code) (omega (arith, inside-values, half-length, length-little 1 code)) ∙ half-length
+
   pub status-leaves : (j : ℕ) → j < row-count → named c (at-row j) ≡ false → entry-of (at-row j) (with-status c code values) ≡ entry-of (at-row j) values
   unfolding with-status
   status-leaves j h e =
@@ -185,7 +189,7 @@ module _ (values : List ℕ) (long : length values ≡ 1024) where
   latched-length : length (splice values latched-status (replicate latched-size 0)) ≡ 1024
   latched-length = splice-length values latched-status (replicate latched-size 0) (rw long) ∙ long
 
-  cleared-length : length (exceptions-cleared values) ≡ 1024
+  pub cleared-length : length (exceptions-cleared values) ≡ 1024
   unfolding exceptions-cleared with-summary
   cleared-length = put-length _ summary-byte 1 _ (rw latched-length) ∙ latched-length
 

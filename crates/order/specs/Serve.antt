@@ -45,7 +45,7 @@ module _ (P : Gauge) where
     pub after : After (P .Key)
     pub answer : Answer (P .Key)
 
-  -- the line's transfer is ended or dropped (R6.2); a store that is handed on unchanged is R6.7
+  -- the line's transfer is ended or dropped (R6.2); the store is the one given (R6.7)
   abbrev pub over : P .Store → Answer (P .Key) → Served
   over g t = record { store = g; after = kept idle; answer = t }
 

@@ -1,8 +1,7 @@
 -- RULE: a row of the object table (R1.1), and the names of types and accesses (R1.5). Assumes nothing.
 use Prim.Native.Nat.{ℕ}
 
--- Limits and default are numbers, of a
--- REAL its 32 bits; strings, the card and command words have none, and zeros stand there.
+-- Limits and default are numbers, of a REAL its 32 bits; strings, the card and command words have none, and zeros stand there.
 pub record Row : Type 0 where
   pub index : ℕ
   pub sub : ℕ
