@@ -17,9 +17,9 @@ use Rattle.gauge.specs.Memory.{Store, memory-of}
 use Rattle.gauge.specs.PowerUp.{fresh-values}
 use Rattle.sdo.specs.declared.Message.{Message}
 use Rattle.sdo.specs.declared.Message.the-variants.{SendPart, OpenWrite, OpenRead, NextPart, GiveUp, Unknown}
-use Rattle.sdo.specs.Eight.{messageOf}
+use Rattle.sdo.specs.Eight.{message-of}
 use Rattle.sdo.specs.Replies.{Reply}
-use Rattle.sdo.specs.Records.{Spoken, allZero, speak}
+use Rattle.sdo.specs.Records.{Spoken, zero-record, speak}
 use Rattle.sdo.proofs.RecordLaws.{Whole}
 use Rattle.state.specs.State.{record-place, record-at, record-bytes, trips-place, trips-at, trips-bytes, dropped, settled}
 use Rattle.line.specs.Answering.{is-abort, reply-to, Acted, act-by, Told, told, told-by, answered}
@@ -104,8 +104,8 @@ module _ (line : ℕ) (m v b s a : List ℕ) (on-line : line ≤ 1) (lent : Lent
   whole : Whole (record-at s (record-place line))
   whole = whole-record s (record-place line) (lent .state-long) (place-most line on-line)
 
-  pub abort-served : {at : ℕ} {said : Message} {s′ : List ℕ} → at ≡ record-place line → said ≡ messageOf m → is-abort said ≡ true
-      → s′ ≡ splice s at (record-bytes allZero) → called 5 v b s′ a ≡ served line (speak bag552 (store-of v b s) (record-at s (record-place line)) m) s a
+  pub abort-served : {at : ℕ} {said : Message} {s′ : List ℕ} → at ≡ record-place line → said ≡ message-of m → is-abort said ≡ true
+      → s′ ≡ splice s at (record-bytes zero-record) → called 5 v b s′ a ≡ served line (speak bag552 (store-of v b s) (record-at s (record-place line)) m) s a
   unfolding served settled number-by splice
   abort-served {said = said} ea em ei es =
       rw (given-up (store-of v b s) (record-at s (record-place line)) m whole (lent .values-long) (sym em ∙ abort-is said ei), es, ea)
@@ -119,7 +119,7 @@ module _ (line : ℕ) (m v b s a : List ℕ) (on-line : line ≤ 1) (lent : Lent
       let long : length (x .eight) ≡ 8 = sym (ap length eight) ∙ n in
       rw (i, ap (λ (t : Told). t .values) q, ap (λ (t : Told). t .block) q, ap (λ (t : Told). t .state) q, take-all 8 e (omega arith), eight, is-answer (x .eight) long)
 
-  pub answer-served : {at : ℕ} {said : Message} {v′ b′ s′ e a′ : List ℕ} → at ≡ record-place line → said ≡ messageOf m → is-abort said ≡ false
+  pub answer-served : {at : ℕ} {said : Message} {v′ b′ s′ e a′ : List ℕ} → at ≡ record-place line → said ≡ message-of m → is-abort said ≡ false
       → told v′ b′ s′ e ≡ answered at v b s (reply-to said m v (record-at s at)) → length e ≡ 8 → a′ ≡ splice a 0 (take 8 (drop 0 e))
       → called 0 v′ b′ s′ a′ ≡ served line (speak bag552 (store-of v b s) (record-at s (record-place line)) m) s a
   answer-served {at} {said} ea em ei et n i =

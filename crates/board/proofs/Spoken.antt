@@ -8,8 +8,8 @@ use native.Mathlib.Omega.{arith}
 use lib.Dec.{ltb, leb}
 use lib.ListN.{length, take, drop}
 use borrow.Author.Tests.{ltb-false, leb-true, ne-eqb}
-use Rattle.order.specs.Talk.{Said, announced, unsaid, own, openRead, openWrite, expedited, Sizes, sizes, closed, refused, Outcome, stored, restarted, declined}
-use Rattle.order.specs.Gauge.{tooLong, tooShort, narrowed, counted, say}
+use Rattle.order.specs.Talk.{Said, announced, unsaid, own, open-read, open-write, expedited, Sizes, sizes, closed, refused, Outcome, stored, restarted, declined}
+use Rattle.order.specs.Gauge.{too-long, too-short, narrowed, counted, say}
 use Rattle.table.specs.Row.{RO, WO}
 use Rattle.table.specs.Rows.{at-row, row-count}
 use Rattle.table.specs.Find.{find-row}
@@ -33,14 +33,14 @@ use Rattle.sdo.specs.declared.Opening.{Opening}
 use Rattle.sdo.specs.declared.Opening.the-variants.{Value, Own, Announced, Unsaid}
 use Rattle.sdo.specs.declared.Message.{Message}
 use Rattle.sdo.specs.declared.Message.the-variants.{SendPart, OpenWrite, OpenRead, NextPart, GiveUp, Unknown}
-use Rattle.sdo.specs.Eight.{messageOf, asked, askOf, answerOf}
-use Rattle.sdo.specs.Records.{Spoken, allZero, keyAt, allows, counts, speak}
-use Rattle.sdo.specs.Replies.{Act, Done, Commit, Reply, ending, is-reading, is-writing, givenReply, nextPartReply, takenReply, sendPartReply, openReadReply, openWriteBy, openWriteReply, expeditedBy, expeditedReply, filled, concluded, actedBy}
+use Rattle.sdo.specs.Eight.{message-of, asked, ask-of, answer-of}
+use Rattle.sdo.specs.Records.{Spoken, zero-record, key-at, allows, counts, speak}
+use Rattle.sdo.specs.Replies.{Act, Done, Commit, Reply, ending, is-reading, is-writing, given-reply, next-part-reply, taken-reply, send-part-reply, open-read-reply, open-write-by, open-write-reply, expedited-by, expedited-reply, filled, concluded, acted-by}
 use Rattle.sdo.specs.Lines.{short}
 use Rattle.sdo.proofs.RecordLaws.{Whole, counts-fits}
 use Rattle.sdo.proofs.ReplyLaws.{ask-is}
 use Rattle.sdo.proofs.SpeakLaws.{speak-next-part, speak-send-part, speak-give-up, speak-unknown, speak-read-denied, speak-write-closed, speak-expedited-closed, speak-open-read, speak-open-write, speak-expedited}
-use Rattle.line.specs.Answering.{through, open-read, open-write, reply-to, Acted, act-by}
+use Rattle.line.specs.Answering.{through, opens-read, opens-write, reply-to, Acted, act-by}
 use Rattle.line.specs.Answering as line
 use Rattle.board.specs.Gauge.{bag552}
 
@@ -65,8 +65,8 @@ unfolding pick
 by-pick true x y p q = p refl
 by-pick false x y p q = q refl
 
-next-writable : (t : Transfer) (u : Bool) → Writable ((nextPartReply t u) .act)
-unfolding nextPartReply givenReply
+next-writable : (t : Transfer) (u : Bool) → Writable ((next-part-reply t u) .act)
+unfolding next-part-reply given-reply
 next-writable t u =
     by-pick (is-reading (t .direction) && counts t) _ _
     (λ e. by-pick (Bool·beq (t .toggle) u) _ _ (λ e. by-pick (leb (t .len) (t .place + 7)) _ _ (λ e. tt) (λ e. tt)) (λ e. tt))
@@ -88,8 +88,8 @@ written-writable t e =
     let f = counts-fits t (w .1) in
     (f .there, two-up (at-row (t .row) .access) (subst (λ (d : Direction). allows d (at-row (t .row) .access) ≡ true) (w .0) (f .allowed)), f .length-is)
 
-part-writable : (t : Transfer) (u : Bool) (bytes : List ℕ) (last : Bool) → Writable ((sendPartReply t u bytes last) .act)
-unfolding sendPartReply takenReply
+part-writable : (t : Transfer) (u : Bool) (bytes : List ℕ) (last : Bool) → Writable ((send-part-reply t u bytes last) .act)
+unfolding send-part-reply taken-reply
 part-writable t u bytes last =
     by-pick (is-writing (t .direction) && counts t) _ _
     (λ e. by-pick (Bool·beq (t .toggle) u) _ _
@@ -98,43 +98,43 @@ part-writable t u bytes last =
     (λ e′. tt))
     (λ e. tt)
 
-read-writable : (row : ℕ) (held : List ℕ) (len : ℕ) → Writable ((openReadReply row held len) .act)
-unfolding openReadReply
+read-writable : (row : ℕ) (held : List ℕ) (len : ℕ) → Writable ((open-read-reply row held len) .act)
+unfolding open-read-reply
 read-writable row held len = by-pick (short len) _ _ (λ e. tt) (λ e. tt)
 
-open-writable : (row : ℕ) (said : Said) → Writable ((openWriteReply row said) .act)
-unfolding openWriteReply
+open-writable : (row : ℕ) (said : Said) → Writable ((open-write-reply row said) .act)
+unfolding open-write-reply
 open-writable row said = go (narrowed (at-row row .len) (at-row row .len) said)
   where
-    go : (z : Sizes) → Writable ((openWriteBy row z) .act)
+    go : (z : Sizes) → Writable ((open-write-by row z) .act)
     go (sizes low high) = tt
     go (closed c) = tt
 
-expedited-writable : (row : ℕ) → row < row-count → (at-row row .access ≡ RO → ⊥) → (said : Said) (bytes : List ℕ) → Writable ((expeditedReply row said bytes) .act)
-unfolding expeditedReply expeditedBy narrowed
+expedited-writable : (row : ℕ) → row < row-count → (at-row row .access ≡ RO → ⊥) → (said : Said) (bytes : List ℕ) → Writable ((expedited-reply row said bytes) .act)
+unfolding expedited-reply expedited-by narrowed
 expedited-writable row there access said bytes = go said
   where
     n : ℕ
     n = at-row row .len
 
-    commits : (m : ℕ) (low : ℕ) (bs : List ℕ) → m ≡ at-row row .len → Writable ((expeditedBy row (sizes low m) bs) .act)
+    commits : (m : ℕ) (low : ℕ) (bs : List ℕ) → m ≡ at-row row .len → Writable ((expedited-by row (sizes low m) bs) .act)
     commits m low bs e =
         by-pick (ltb m (length bs)) _ _ (λ x. tt) (λ x. by-pick (ltb (length bs) low) _ _ (λ y. tt) (λ y. (there, access, e)))
 
     sized : (k : ℕ) (bs : List ℕ) (d c : Bool) → ltb (at-row row .len) k ≡ d → ltb k (at-row row .len) ≡ c
-        → Writable ((expeditedBy row (cond d (closed tooLong) (cond c (closed tooShort) (sizes k k))) bs) .act)
+        → Writable ((expedited-by row (cond d (closed too-long) (cond c (closed too-short) (sizes k k))) bs) .act)
     sized k bs true c e f = tt
     sized k bs false true e f = tt
     sized k bs false false e f =
         commits k k bs (let a = ltb-false (at-row row .len) k e in let b = ltb-false k (at-row row .len) f in omega arith)
 
-    go : (s : Said) → Writable ((expeditedReply row s bytes) .act)
+    go : (s : Said) → Writable ((expedited-reply row s bytes) .act)
     go (announced k) = sized k (counted (announced k) (at-row row .len) bytes) (ltb (at-row row .len) k) (ltb k (at-row row .len)) refl refl
     go unsaid = commits (at-row row .len) (at-row row .len) (counted unsaid (at-row row .len) bytes) refl
     go own = commits (at-row row .len) (at-row row .len) (counted own (at-row row .len) bytes) refl
 
-opening-writable : (o : Opening) (m : List ℕ) (row : ℕ) → row < row-count → (at-row row .access ≡ RO → ⊥) → Writable ((open-write o m row) .act)
-unfolding open-write
+opening-writable : (o : Opening) (m : List ℕ) (row : ℕ) → row < row-count → (at-row row .access ≡ RO → ⊥) → Writable ((opens-write o m row) .act)
+unfolding opens-write
 opening-writable (Value n) m row h a = expedited-writable row h a (announced n) (take n (drop 4 m))
 opening-writable Own m row h a = expedited-writable row h a own (take 4 (drop 4 m))
 opening-writable (Announced n) m row h a = open-writable row (announced n)
@@ -151,12 +151,12 @@ through-writable barred code k f h = go (gate barred code (find-row (k .index) (
 
 -- the reply to any message
 pub reply-writable : (said : Message) (m values : List ℕ) (t : Transfer) → Writable ((reply-to said m values t) .act)
-unfolding reply-to open-read
+unfolding reply-to opens-read
 reply-writable (SendPart u n last) m values t = part-writable t u (take n (drop 1 m)) last
 reply-writable (OpenWrite k o) m values t =
-    through-writable RO read-only k (open-write o m) (λ row d. opening-writable o m row (find-at (k .index) (k .sub) row (d .found) .there) (d .allowed))
+    through-writable RO read-only k (opens-write o m) (λ row d. opening-writable o m row (find-at (k .index) (k .sub) row (d .found) .there) (d .allowed))
 reply-writable (OpenRead k) m values t =
-    through-writable WO write-only k (open-read values) (λ row o. read-writable row (filled (value-of (at-row row) values)) (at-row row .len))
+    through-writable WO write-only k (opens-read values) (λ row o. read-writable row (filled (value-of (at-row row) values)) (at-row row .len))
 reply-writable (NextPart u) m values t = next-writable t u
 reply-writable GiveUp m values t = tt
 reply-writable Unknown m values t = tt
@@ -170,27 +170,27 @@ open-gate row h a =
 
 module _ (g : Store) where
   concluded-agree : (row : ℕ) (eight : List ℕ) (o : Outcome Memory)
-      → concluded bag552 g (keyAt row) eight (with-trips g o) ≡ spoken-by g (line.concluded (g .memory) row eight o)
+      → concluded bag552 g (key-at row) eight (with-trips g o) ≡ spoken-by g (line.concluded (g .memory) row eight o)
   unfolding concluded with-trips spoken-by line.concluded
   concluded-agree row eight (stored m) = refl
   concluded-agree row eight (restarted m) = refl
   concluded-agree row eight (declined c) = refl
 
-  act-agree : (r : Reply) (a : Act) → Writable a → actedBy bag552 g r a ≡ spoken-by g (act-by (g .memory) r a)
-  unfolding actedBy act-by spoken-by commit-through
+  act-agree : (r : Reply) (a : Act) → Writable a → acted-by bag552 g r a ≡ spoken-by g (act-by (g .memory) r a)
+  unfolding acted-by act-by spoken-by commit-through
   act-agree r Done w = refl
   act-agree r (Commit row len) w =
-      ap (concluded bag552 g (keyAt row) (r .eight)) (commit-by-gate (at-row row .index) (at-row row .sub) g (take len (r .next .held)))
-      ∙ ap (λ (w : Way). concluded bag552 g (keyAt row) (r .eight) (commit-through w g (take len (r .next .held)))) (open-gate row (w .0) (w .1))
+      ap (concluded bag552 g (key-at row) (r .eight)) (commit-by-gate (at-row row .index) (at-row row .sub) g (take len (r .next .held)))
+      ∙ ap (λ (w : Way). concluded bag552 g (key-at row) (r .eight) (commit-through w g (take len (r .next .held)))) (open-gate row (w .0) (w .1))
       ∙ concluded-agree row (r .eight) (commit-row row (take len (r .next .held)) (g .memory))
 
   -- ---- by what the message says
 
   module _ (t : Transfer) (m : List ℕ) (whole : Whole t) (sized : length (g .memory .values) ≡ 1024) where
     abbrev Agrees : Reply → Type 0
-    Agrees r = speak bag552 g t m ≡ actedBy bag552 g r (r .act)
+    Agrees r = speak bag552 g t m ≡ acted-by bag552 g r (r .act)
 
-    by-gate : (barred code : ℕ) (k : Key) (f : ℕ → Reply) → ((c : ℕ) → gate barred code (find-row (k .index) (k .sub)) ≡ no-way c → Agrees (ending (answerOf (refused k c))))
+    by-gate : (barred code : ℕ) (k : Key) (f : ℕ → Reply) → ((c : ℕ) → gate barred code (find-row (k .index) (k .sub)) ≡ no-way c → Agrees (ending (answer-of (refused k c))))
         → ((row : ℕ) → gate barred code (find-row (k .index) (k .sub)) ≡ to-row row → find-row (k .index) (k .sub) ≡ At row → Agrees (f row))
         → Agrees (through (gate barred code (find-row (k .index) (k .sub))) k f)
     unfolding through
@@ -208,46 +208,46 @@ module _ (g : Store) where
     unfolding sizes-of smallest largest
     sized-by k row e = sizes-by-gate (k .index) (k .sub) ∙ ap sizes-of e
 
-    whole-write : (k : Key) (said : Said) (bytes : List ℕ) (f : ℕ → Reply) → ((row : ℕ) → f row ≡ expeditedReply row said bytes) → askOf m ≡ expedited k said bytes
+    whole-write : (k : Key) (said : Said) (bytes : List ℕ) (f : ℕ → Reply) → ((row : ℕ) → f row ≡ expedited-reply row said bytes) → ask-of m ≡ expedited k said bytes
         → Agrees (through (write-gate (find-row (k .index) (k .sub))) k f)
     whole-write k said bytes f is ask =
         by-gate RO read-only k f (λ c e. speak-expedited-closed bag552 g t m k said bytes c ask (closed-by k c e))
         (λ row e found. subst Agrees (sym (is row)) (speak-expedited bag552 g t m k row found said bytes ask (sized-by k row e)))
 
-    parted-write : (k : Key) (n : Option ℕ) (f : ℕ → Reply) → ((row : ℕ) → f row ≡ openWriteReply row (say n)) → askOf m ≡ openWrite k n []
+    parted-write : (k : Key) (n : Option ℕ) (f : ℕ → Reply) → ((row : ℕ) → f row ≡ open-write-reply row (say n)) → ask-of m ≡ open-write k n []
         → Agrees (through (write-gate (find-row (k .index) (k .sub))) k f)
     parted-write k n f is ask =
         by-gate RO read-only k f (λ c e. speak-write-closed bag552 g t m k n [] c ask (closed-by k c e))
         (λ row e found. subst Agrees (sym (is row)) (speak-open-write bag552 g t m k row found n ask (sized-by k row e)))
 
-    whole-read : (k : Key) → askOf m ≡ openRead k → Agrees (through (read-gate (find-row (k .index) (k .sub))) k (open-read (g .memory .values)))
-    unfolding read-through open-read
+    whole-read : (k : Key) → ask-of m ≡ open-read k → Agrees (through (read-gate (find-row (k .index) (k .sub))) k (opens-read (g .memory .values)))
+    unfolding read-through opens-read
     whole-read k ask =
-        by-gate WO write-only k (open-read (g .memory .values))
+        by-gate WO write-only k (opens-read (g .memory .values))
         (λ c e. speak-read-denied bag552 g t m k c ask (read-by-gate (k .index) (k .sub) g ∙ ap (λ (w : Way). read-through w (g .memory .values)) e))
         (λ row e found.
         let n = value-length row (find-at (k .index) (k .sub) row found .there) (g .memory .values) sized in
-        subst (λ (l : ℕ). Agrees (openReadReply row (filled (value-of (at-row row) (g .memory .values))) l)) n
+        subst (λ (l : ℕ). Agrees (open-read-reply row (filled (value-of (at-row row) (g .memory .values))) l)) n
         (speak-open-read bag552 g t m k row found (value-of (at-row row) (g .memory .values)) ask (read-by-gate (k .index) (k .sub) g ∙ ap (λ (w : Way). read-through w (g .memory .values)) e)))
 
-    agrees : (said : Message) → messageOf m ≡ said → (said ≡ GiveUp → ⊥) → Agrees (reply-to said m (g .memory .values) t)
-    unfolding asked reply-to open-write
+    agrees : (said : Message) → message-of m ≡ said → (said ≡ GiveUp → ⊥) → Agrees (reply-to said m (g .memory .values) t)
+    unfolding asked reply-to opens-write
     agrees (SendPart u n last) e d = speak-send-part bag552 g t m u (take n (drop 1 m)) last (ask-is m (SendPart u n last) e) whole
-    agrees (OpenWrite k (Value n)) e d = whole-write k (announced n) (take n (drop 4 m)) (open-write (Value n) m) (λ row. refl) (ask-is m (OpenWrite k (Value n)) e)
-    agrees (OpenWrite k Own) e d = whole-write k own (take 4 (drop 4 m)) (open-write Own m) (λ row. refl) (ask-is m (OpenWrite k Own) e)
-    agrees (OpenWrite k (Announced n)) e d = parted-write k (some n) (open-write (Announced n) m) (λ row. refl) (ask-is m (OpenWrite k (Announced n)) e)
-    agrees (OpenWrite k Unsaid) e d = parted-write k none (open-write Unsaid m) (λ row. refl) (ask-is m (OpenWrite k Unsaid) e)
+    agrees (OpenWrite k (Value n)) e d = whole-write k (announced n) (take n (drop 4 m)) (opens-write (Value n) m) (λ row. refl) (ask-is m (OpenWrite k (Value n)) e)
+    agrees (OpenWrite k Own) e d = whole-write k own (take 4 (drop 4 m)) (opens-write Own m) (λ row. refl) (ask-is m (OpenWrite k Own) e)
+    agrees (OpenWrite k (Announced n)) e d = parted-write k (some n) (opens-write (Announced n) m) (λ row. refl) (ask-is m (OpenWrite k (Announced n)) e)
+    agrees (OpenWrite k Unsaid) e d = parted-write k none (opens-write Unsaid m) (λ row. refl) (ask-is m (OpenWrite k Unsaid) e)
     agrees (OpenRead k) e d = whole-read k (ask-is m (OpenRead k) e)
     agrees (NextPart u) e d = speak-next-part bag552 g t m u (ask-is m (NextPart u) e) whole
     agrees GiveUp e d = absurd (d refl)
     agrees Unknown e d = speak-unknown bag552 g t m (ask-is m Unknown e)
 
     -- THE LAW that the call's promise cites
-    pub speak-is : (said : Message) → messageOf m ≡ said → (said ≡ GiveUp → ⊥)
+    pub speak-is : (said : Message) → message-of m ≡ said → (said ≡ GiveUp → ⊥)
         → speak bag552 g t m ≡ spoken-by g (act-by (g .memory) (reply-to said m (g .memory .values) t) ((reply-to said m (g .memory .values) t) .act))
     speak-is said e d =
         agrees said e d ∙ act-agree (reply-to said m (g .memory .values) t) ((reply-to said m (g .memory .values) t) .act) (reply-writable said m (g .memory .values) t)
 
-    pub given-up : messageOf m ≡ GiveUp → speak bag552 g t m ≡ record { store = g; next = allZero; reset = false; bytes = [] }
+    pub given-up : message-of m ≡ GiveUp → speak bag552 g t m ≡ record { store = g; next = zero-record; reset = false; bytes = [] }
     unfolding asked
     given-up e = speak-give-up bag552 g t m (ask-is m GiveUp e)

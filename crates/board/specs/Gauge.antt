@@ -25,8 +25,8 @@ bag552 =
     record {
       Store = Store;
       Sample = Sample;
-      readWhole = λ g k. read-whole g (k .index) (k .sub);
-      rowOf = λ k. write-sizes (k .index) (k .sub);
+      read-whole = λ g k. read-whole g (k .index) (k .sub);
+      write-sizes = λ k. write-sizes (k .index) (k .sub);
       commit = λ g k bytes. commit-whole g (k .index) (k .sub) bytes;
       sampled = sampled;
     }

@@ -5,7 +5,7 @@ use mathlib.Core.List.{List, _++_, map}
 use lib.ListN.{getD, replicate}
 use Rattle.order.specs.Talk.{Result, gave, yes!, code, taken}
 use Rattle.order.specs.Gauge.{results}
-use Rattle.order.specs.Promise.{opsOf, gotOf}
+use Rattle.order.specs.Promise.{ops-of, got-of}
 use Rattle.sdo.specs.Lines.{gauge}
 use Rattle.board.specs.Gauge.{bag552}
 use Rattle.demand3.specs.Firmware.{Exported, Back, observed, powered-store}
@@ -18,7 +18,7 @@ abbrev told : List Case → List (Exported × Back)
 told cs = map (λ (c : Case). (asks c, expects c)) cs
 
 abbrev Plain : List Case → Type 0
-Plain cs = results (gauge bag552) (powered-store (replicate 512 0)) (opsOf (gauge bag552) (observed (told cs))) ≡ gotOf (gauge bag552) (observed (told cs))
+Plain cs = results (gauge bag552) (powered-store (replicate 512 0)) (ops-of (gauge bag552) (observed (told cs))) ≡ got-of (gauge bag552) (observed (told cs))
 
 -- the first byte of the value that the n-th operation got
 first-byte : Result → ℕ

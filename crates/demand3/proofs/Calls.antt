@@ -16,16 +16,16 @@ use Rattle.trip.specs.declared.Trips.{Trips}
 use Rattle.trip.specs.Trip.{all-off}
 use Rattle.sample.specs.Sample.{trips-after, values-after}
 use Rattle.order.specs.Talk.{idle}
-use Rattle.order.specs.Gauge.{results, endOf}
+use Rattle.order.specs.Gauge.{results, end-of}
 use Rattle.order.specs.Observe.{Done}
-use Rattle.order.specs.Promise.{opsOf, gotOf}
+use Rattle.order.specs.Promise.{ops-of, got-of}
 use Rattle.order.specs.Bytes.{heard, fed, client}
 use Rattle.gauge.specs.Memory.{Store, memory-of}
 use Rattle.gauge.specs.PowerUp.{fresh-values}
 use Rattle.sdo.specs.declared.Transfer.{Transfer}
-use Rattle.sdo.specs.Eight.{messageOf}
-use Rattle.sdo.specs.Lines.{gauge, eight, Line, tool, service, Both, atLine, setLine, both, twoLines, eightCodec, BoardCall}
-use Rattle.sdo.specs.Records.{allZero, Spoken, speak, RecordBoard, recordsAfter, recordCall, recordTalk, recordEnd, recordStart, Demand3Records}
+use Rattle.sdo.specs.Eight.{message-of}
+use Rattle.sdo.specs.Lines.{gauge, eight, Line, tool, service, Both, at-line, set-line, both, two-lines, eight-codec, BoardCall}
+use Rattle.sdo.specs.Records.{zero-record, Spoken, speak, RecordBoard, records-after, record-call, record-talk, record-end, record-start, Demand3Records}
 use Rattle.sdo.proofs.RecordLaws.{Whole, Small, served-small}
 use Rattle.sdo.proofs.Demand.{spoken-eight, unfinished}
 use Rattle.sdo.proofs.DemandRecords.{next-served, next-whole, WholeBoard, follows}
@@ -35,7 +35,7 @@ use Rattle.board.specs.Gauge.{Sample, sampled, bag552}
 use Rattle.board.specs.Calls.{Called, Fed, store-of, sized, called, number-by, served, message-call, power-up-call, powered, fed-by, sample-call}
 use Rattle.board.proofs.Spoken.{spoken-by, speak-is, given-up}
 use Rattle.board.proofs.CallLaws.{abort-is, no-abort, place-most, all-sized, no-line, no-room, no-message, is-served}
-use Rattle.demand3.specs.Firmware.{Arrays, arrays, Exported, to-message, to-sample, to-image, Back, back, by-message, by-sample, exported, history, final, power-on, line-of, answer-by, ends-write, Answered, event-of, with-event, events, calls-in, observed, powered-store, store-in, board-in, Demand3Calls}
+use Rattle.demand3.specs.Firmware.{Arrays, arrays, Exported, to-message, to-sample, to-image, Back, back, by-message, by-sample, exported, history, final, power-on, line-of, answer-by, write-seen-ended, Answered, event-of, with-event, events, calls-in, observed, powered-store, store-in, board-in, Demand3Calls}
 use Rattle.demand3.proofs.Lengths.{values-long, fresh-long}
 use Rattle.demand3.proofs.Bag552.{sound, real-rows, GoodStore, good, good-is, demand3-board}
 use Rattle.demand3.proofs.StateBytes.{record-long, record-back, record-beside, trips-long, trips-back, trips-beside}
@@ -47,7 +47,7 @@ pub record Lent (a : Arrays) : Type 0 where
 
 -- ---- the state after a message and after a device reset
 
-zero-small : Small allZero
+zero-small : Small zero-record
 zero-small = record { row-fits = omega arith; len-fits = omega arith; place-fits = omega arith }
 
 -- a record of either line is written
@@ -66,16 +66,16 @@ module _ (s : List ℕ) (long : length s ≡ 256) (t : Transfer) (w : Whole t) (
 
 module _ (s : List ℕ) (long : length s ≡ 256) where
   abbrev first : List ℕ
-  first = splice s 0 (record-bytes allZero)
+  first = splice s 0 (record-bytes zero-record)
 
   abbrev second : List ℕ
-  second = splice first 96 (record-bytes allZero)
+  second = splice first 96 (record-bytes zero-record)
 
   first-long : length first ≡ 256
-  first-long = put-long s long allZero refl zero-small 0 (omega arith)
+  first-long = put-long s long zero-record refl zero-small 0 (omega arith)
 
   second-long : length second ≡ 256
-  second-long = put-long first first-long allZero refl zero-small 96 (omega arith)
+  second-long = put-long first first-long zero-record refl zero-small 96 (omega arith)
 
   off-apart : (q : ℕ) → q + 70 ≤ trips-place → record-at (dropped s) q ≡ record-at second q
   unfolding dropped
@@ -85,18 +85,18 @@ module _ (s : List ℕ) (long : length s ≡ 256) where
   unfolding dropped
   dropped-long = length-splice second trips-place (trips-bytes all-off) (omega (arith, second-long, trips-long all-off)) ∙ second-long
 
-  pub dropped-tool : record-at (dropped s) 0 ≡ allZero
+  pub dropped-tool : record-at (dropped s) 0 ≡ zero-record
   dropped-tool =
-      off-apart 0 (omega arith) ∙ put-other first first-long allZero refl zero-small 96 0 (omega arith) (inr (omega arith)) ∙ put-own s long allZero refl zero-small 0 (omega arith)
+      off-apart 0 (omega arith) ∙ put-other first first-long zero-record refl zero-small 96 0 (omega arith) (inr (omega arith)) ∙ put-own s long zero-record refl zero-small 0 (omega arith)
 
-  pub dropped-service : record-at (dropped s) 96 ≡ allZero
-  dropped-service = off-apart 96 (omega arith) ∙ put-own first first-long allZero refl zero-small 96 (omega arith)
+  pub dropped-service : record-at (dropped s) 96 ≡ zero-record
+  dropped-service = off-apart 96 (omega arith) ∙ put-own first first-long zero-record refl zero-small 96 (omega arith)
 
   pub dropped-trips : trips-at (dropped s) ≡ all-off
   unfolding dropped
   dropped-trips = trips-back second all-off second-long
 
--- ---- one message: the arrays that it leaves stand for the board that `recordCall` leaves
+-- ---- one message: the arrays that it leaves stand for the board that `record-call` leaves
 
 kept-acted : (g : Store) (a : Acted) → (spoken-by g a) .store .trips ≡ cond ((spoken-by g a) .reset) all-off (g .trips)
 unfolding spoken-by
@@ -105,16 +105,16 @@ kept-acted g a = refl
 -- "trips off" after a device reset; any other message leaves the trip states
 trips-kept : (g : Store) (t : Transfer) (m : List ℕ) → Whole t → length (g .memory .values) ≡ 1024
     → (speak bag552 g t m) .store .trips ≡ cond ((speak bag552 g t m) .reset) all-off (g .trips)
-trips-kept g t m w n = go (is-abort (messageOf m)) refl
+trips-kept g t m w n = go (is-abort (message-of m)) refl
   where
     Kept : Spoken Store → Type 0
     Kept x = x .store .trips ≡ cond (x .reset) all-off (g .trips)
 
-    go : (b : Bool) → is-abort (messageOf m) ≡ b → Kept (speak bag552 g t m)
-    go true e = subst Kept (sym (given-up g t m w n (abort-is (messageOf m) e))) refl
-    go false e = subst Kept (sym (speak-is g t m w n (messageOf m) refl (no-abort (messageOf m) e))) (kept-acted g _)
+    go : (b : Bool) → is-abort (message-of m) ≡ b → Kept (speak bag552 g t m)
+    go true e = subst Kept (sym (given-up g t m w n (abort-is (message-of m) e))) refl
+    go false e = subst Kept (sym (speak-is g t m w n (message-of m) refl (no-abort (message-of m) e))) (kept-acted g _)
 
-records-same : {a a′ b b′ : Transfer} → a ≡ a′ → b ≡ b′ → _≡_ {A = Both Transfer} (record { onTool = a; onService = b }) (record { onTool = a′; onService = b′ })
+records-same : {a a′ b b′ : Transfer} → a ≡ a′ → b ≡ b′ → _≡_ {A = Both Transfer} (record { on-tool = a; on-service = b }) (record { on-tool = a′; on-service = b′ })
 records-same e f = rw (e, f)
 
 boards-same : {g g′ : Store} {r r′ : Both Transfer} → g ≡ g′ → r ≡ r′ → _≡_ {A = RecordBoard bag552} (record { store = g; records = r }) (record { store = g′; records = r′ })
@@ -122,8 +122,8 @@ boards-same e f = rw (e, f)
 
 -- the records, and the trip states, after a message
 settled-records : (a : Arrays) (line : ℕ) (next : Transfer) (reset : Bool) → line ≤ 1 → length (a .state) ≡ 256 → Whole next → Small next
-    → _≡_ {A = Both Transfer} (record { onTool = record-at (settled (record-place line) next reset (a .state)) 0; onService = record-at (settled (record-place line) next reset (a .state)) 96 })
-    (cond reset (both allZero) (setLine (board-in a .records) (line-of line) next))
+    → _≡_ {A = Both Transfer} (record { on-tool = record-at (settled (record-place line) next reset (a .state)) 0; on-service = record-at (settled (record-place line) next reset (a .state)) 96 })
+    (cond reset (both zero-record) (set-line (board-in a .records) (line-of line) next))
 unfolding settled record-place line-of
 settled-records a line next true h n w small = records-same (dropped-tool (a .state) n) (dropped-service (a .state) n)
 settled-records a zero next false h n w small =
@@ -147,7 +147,7 @@ module _ (s : List ℕ) (n : length s ≡ 256) (line : ℕ) (h : line ≤ 1) (ne
   settled-long true = dropped-long s n
   settled-long false = put-long s n next w small (record-place line) (place-most line h)
 
-at-line : (a : Arrays) (line : ℕ) → line ≤ 1 → record-at (a .state) (record-place line) ≡ atLine (board-in a .records) (line-of line)
+at-line : (a : Arrays) (line : ℕ) → line ≤ 1 → record-at (a .state) (record-place line) ≡ at-line (board-in a .records) (line-of line)
 unfolding record-place line-of
 at-line a zero h = refl
 at-line a (suc zero) h = refl
@@ -160,7 +160,7 @@ whole-at s at n h = part-length s at 64 (omega arith)
 pub whole-board : (a : Arrays) → Lent a → WholeBoard bag552 real-rows (board-in a)
 whole-board a ok = record { good = good (store-in a) (ok .memory-sized); at-each = each }
   where
-    each : (l : Line) → Whole (atLine (board-in a .records) l)
+    each : (l : Line) → Whole (at-line (board-in a .records) l)
     each tool = whole-at (a .state) 0 (ok .state-is) (omega arith)
     each service = whole-at (a .state) 96 (ok .state-is) (omega arith)
 
@@ -190,10 +190,10 @@ module _ (a : Arrays) (ok : Lent a) (line : ℕ) (on-line : line ≤ 1) (m : Lis
       (trips-kept (store-in a) own m own-whole (ok .memory-sized .values-are) ∙ sym (settled-trips (a .state) (ok .state-is) line on-line (said .next) next-long next-small (said .reset)))
 
   -- LAW: a message that is served is the board's call
-  message-follows : recordCall bag552 (board-in a) (heard (line-of line) m) ≡ (board-in after, said .bytes)
-  unfolding recordCall
+  message-follows : record-call bag552 (board-in a) (heard (line-of line) m) ≡ (board-in after, said .bytes)
+  unfolding record-call
   message-follows =
-      ap (λ (t : Transfer). (record { store = (speak bag552 (store-in a) t m) .store; records = recordsAfter bag552 (board-in a .records) (line-of line) (speak bag552 (store-in a) t m) }, (speak bag552 (store-in a) t m) .bytes)) (sym (at-line a line on-line))
+      ap (λ (t : Transfer). (record { store = (speak bag552 (store-in a) t m) .store; records = records-after bag552 (board-in a .records) (line-of line) (speak bag552 (store-in a) t m) }, (speak bag552 (store-in a) t m) .bytes)) (sym (at-line a line on-line))
       ∙ ap (λ (b : RecordBoard bag552). (b, said .bytes))
       (boards-same store-after (sym (settled-records a line (said .next) (said .reset) on-line (ok .state-is) next-long next-small)))
 
@@ -210,7 +210,7 @@ module _ (a : Arrays) (ok : Lent a) (line : ℕ) (on-line : line ≤ 1) (m : Lis
 
 abbrev pub Seen : RecordBoard bag552 → RecordBoard bag552 → Option Answered → Type 0
 Seen b b′ none = b′ ≡ b
-Seen b b′ (some p) = recordCall bag552 b (p .0) ≡ (b′, p .1)
+Seen b b′ (some p) = record-call bag552 b (p .0) ≡ (b′, p .1)
 
 abbrev pub Fine : Arrays → Exported → Arrays × Back → Type 0
 Fine a c x = Lent (x .0) × Seen (board-in a) (board-in (x .0)) (event-of c (x .1))
@@ -261,15 +261,15 @@ module _ (a : Arrays) (ok : Lent a) (line : ℕ) (m room : List ℕ) where
 
   -- a message call that the observer does not see end a write with yes
   abbrev Leaves : Arrays × Back → Type 0
-  Leaves x = ends-write m (answer-by (x .1)) ≡ false → store-in (x .0) ≡ store-in a
+  Leaves x = write-seen-ended m (answer-by (x .1)) ≡ false → store-in (x .0) ≡ store-in a
 
   leaves-served : (h : line ≤ 1) → Leaves (by-message (served line (said a ok line h m) (a .state) room))
-  unfolding served ends-write
+  unfolding served write-seen-ended
   leaves-served h e =
       let bytes : List ℕ = said a ok line h m .bytes in
       sym (store-after a ok line h m)
       ∙ unfinished bag552 sound (store-in a) (own a ok line h m) m
-      (subst (λ (o : Option (List ℕ)). ends-write m o ≡ false) (answer-read bytes room (spoken-eight bag552 sound (store-in a) (own a ok line h m) m)) e)
+      (subst (λ (o : Option (List ℕ)). write-seen-ended m o ≡ false) (answer-read bytes room (spoken-eight bag552 sound (store-in a) (own a ok line h m) m)) e)
 
   -- THEOREM: a transfer that is under way, refused or dropped changes no value, no byte of the block and no trip state
   pub unfinished-leaves : Leaves (exported a c)
@@ -307,8 +307,8 @@ module _ (a : Arrays) (ok : Lent a) (s : Sample) where
   beside-trips at h = let n : length (a .state) ≡ 256 = ok .state-is in sym (record-beside (a .state) trips-place (trips-bytes tripped) at (omega arith) (inr h))
 
   -- LAW: a sample is the board's call
-  sample-follows : recordCall bag552 (board-in a) (fed s) ≡ (board-in sampled-arrays, [])
-  unfolding recordCall sampled
+  sample-follows : record-call bag552 (board-in a) (fed s) ≡ (board-in sampled-arrays, [])
+  unfolding record-call sampled
   sample-follows =
       ap (λ (b : RecordBoard bag552). (b, []))
       (boards-same (ap (λ (t : Trips). record { memory = store-in sampled-arrays .memory; trips = t }) (sym (trips-back (a .state) tripped (ok .state-is))))
@@ -329,28 +329,28 @@ fine a ok (to-image room) = (ok, refl)
 abbrev firsts : List Answered → List (BoardCall bag552)
 firsts es = map (λ (p : Answered). p .0) es
 
-talk-with : (o : Option Answered) (b b′ : RecordBoard bag552) (es : List Answered) → Seen b b′ o → es ≡ recordTalk bag552 b′ (firsts es)
-    → with-event o es ≡ recordTalk bag552 b (firsts (with-event o es))
-unfolding with-event recordTalk
-talk-with none b b′ es h e = e ∙ ap (λ (x : RecordBoard bag552). recordTalk bag552 x (firsts es)) h
+talk-with : (o : Option Answered) (b b′ : RecordBoard bag552) (es : List Answered) → Seen b b′ o → es ≡ record-talk bag552 b′ (firsts es)
+    → with-event o es ≡ record-talk bag552 b (firsts (with-event o es))
+unfolding with-event record-talk
+talk-with none b b′ es h e = e ∙ ap (λ (x : RecordBoard bag552). record-talk bag552 x (firsts es)) h
 talk-with (some p) b b′ es h e =
     ap (λ (l : List Answered). p ∷ l) e
-    ∙ ap (λ (x : RecordBoard bag552 × List ℕ). (p .0, x .1) ∷ recordTalk bag552 (x .0) (firsts es)) (sym h)
+    ∙ ap (λ (x : RecordBoard bag552 × List ℕ). (p .0, x .1) ∷ record-talk bag552 (x .0) (firsts es)) (sym h)
 
-end-with : (o : Option Answered) (b b′ x : RecordBoard bag552) (es : List Answered) → Seen b b′ o → x ≡ recordEnd bag552 b′ (firsts es)
-    → x ≡ recordEnd bag552 b (firsts (with-event o es))
-unfolding with-event recordEnd
-end-with none b b′ x es h e = e ∙ ap (λ (y : RecordBoard bag552). recordEnd bag552 y (firsts es)) h
-end-with (some p) b b′ x es h e = e ∙ ap (λ (y : RecordBoard bag552 × List ℕ). recordEnd bag552 (y .0) (firsts es)) (sym h)
+end-with : (o : Option Answered) (b b′ x : RecordBoard bag552) (es : List Answered) → Seen b b′ o → x ≡ record-end bag552 b′ (firsts es)
+    → x ≡ record-end bag552 b (firsts (with-event o es))
+unfolding with-event record-end
+end-with none b b′ x es h e = e ∙ ap (λ (y : RecordBoard bag552). record-end bag552 y (firsts es)) h
+end-with (some p) b b′ x es h e = e ∙ ap (λ (y : RecordBoard bag552 × List ℕ). record-end bag552 (y .0) (firsts es)) (sym h)
 
 -- a run is a run of the board with its records: the same answers, the same end
 pub record Told (a : Arrays) (cs : List Exported) : Type 0 where
-  pub same-answers : events (history a cs) ≡ recordTalk bag552 (board-in a) (calls-in (history a cs))
-  pub same-board : board-in (final a cs) ≡ recordEnd bag552 (board-in a) (calls-in (history a cs))
+  pub same-answers : events (history a cs) ≡ record-talk bag552 (board-in a) (calls-in (history a cs))
+  pub same-board : board-in (final a cs) ≡ record-end bag552 (board-in a) (calls-in (history a cs))
   pub lent-still : Lent (final a cs)
 
 pub told : (cs : List Exported) (a : Arrays) → Lent a → Told a cs
-unfolding history final events recordTalk recordEnd
+unfolding history final events record-talk record-end
 told [] a ok = record { same-answers = refl; same-board = refl; lent-still = ok }
 told (c ∷ cs) a ok =
     let f : Fine a c (exported a c) = fine a ok c in
@@ -391,7 +391,7 @@ module _ (v b s : List ℕ) where
     pub powered-lent : Lent (power-on v b s)
     powered-lent = rw powered-is (record { memory-sized = record { values-are = fresh-long b; block-is = long .0 }; state-is = dropped-long s (long .1) })
 
-    powered-board : board-in (power-on v b s) ≡ recordStart bag552 (powered-store b)
+    powered-board : board-in (power-on v b s) ≡ record-start bag552 (powered-store b)
     powered-board =
         ap board-in powered-is
         ∙ boards-same (ap (λ (t : Trips). record { memory = memory-of (fresh-values b) b; trips = t }) (dropped-trips s (long .1)))
@@ -402,14 +402,14 @@ module _ (v b s : List ℕ) where
     unfolding observed
     demand3-calls cs =
         record {
-          same-results = subst (λ (ps : List Answered). results (gauge bag552) (powered-store b) (opsOf (gauge bag552) (seen ps)) ≡ gotOf (gauge bag552) (seen ps)) (sym answers) (d .same-results);
+          same-results = subst (λ (ps : List Answered). results (gauge bag552) (powered-store b) (ops-of (gauge bag552) (seen ps)) ≡ got-of (gauge bag552) (seen ps)) (sym answers) (d .same-results);
           same-end =
-              subst (λ (ps : List Answered). endOf (gauge bag552) (powered-store b) (opsOf (gauge bag552) (seen ps)) ≡ (recordEnd bag552 (recordStart bag552 (powered-store b)) ds) .store) (sym answers) (d .same-end)
+              subst (λ (ps : List Answered). end-of (gauge bag552) (powered-store b) (ops-of (gauge bag552) (seen ps)) ≡ (record-end bag552 (record-start bag552 (powered-store b)) ds) .store) (sym answers) (d .same-end)
               ∙ sym (ap (λ (x : RecordBoard bag552). x .store) ends);
         }
       where
         seen : List Answered → List (Done (gauge bag552))
-        seen ps = client (gauge bag552) (twoLines idle) (λ l. eight) (λ l. eightCodec) ps
+        seen ps = client (gauge bag552) (two-lines idle) (λ l. eight) (λ l. eight-codec) ps
 
         t : Told (power-on v b s) cs
         t = told cs (power-on v b s) powered-lent
@@ -420,8 +420,8 @@ module _ (v b s : List ℕ) where
         d : Demand3Records bag552 (powered-store b) ds
         d = demand3-board b (long .0) ds
 
-        answers : events (history (power-on v b s) cs) ≡ recordTalk bag552 (recordStart bag552 (powered-store b)) ds
-        answers = t .same-answers ∙ ap (λ (x : RecordBoard bag552). recordTalk bag552 x ds) powered-board
+        answers : events (history (power-on v b s) cs) ≡ record-talk bag552 (record-start bag552 (powered-store b)) ds
+        answers = t .same-answers ∙ ap (λ (x : RecordBoard bag552). record-talk bag552 x ds) powered-board
 
-        ends : board-in (final (power-on v b s) cs) ≡ recordEnd bag552 (recordStart bag552 (powered-store b)) ds
-        ends = t .same-board ∙ ap (λ (x : RecordBoard bag552). recordEnd bag552 x ds) powered-board
+        ends : board-in (final (power-on v b s) cs) ≡ record-end bag552 (record-start bag552 (powered-store b)) ds
+        ends = t .same-board ∙ ap (λ (x : RecordBoard bag552). record-end bag552 x ds) powered-board

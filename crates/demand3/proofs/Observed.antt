@@ -10,7 +10,7 @@ use Rattle.order.specs.Gauge.{read, write}
 use Rattle.order.specs.Observe.{Done}
 use Rattle.sdo.specs.declared.Key.{Key}
 use Rattle.sdo.specs.Lines.{gauge, tool}
-use Rattle.sdo.specs.Records.{recordCall}
+use Rattle.sdo.specs.Records.{record-call}
 use Rattle.board.specs.Gauge.{bag552}
 use Rattle.demand3.specs.Firmware.{Exported, to-message, Back, back, history, observed, arrays-after, value-got, ReadOpened}
 use Rattle.demand3.specs.Open.{opened, observer-opened}
@@ -90,7 +90,7 @@ abbrev open-label : List ℕ
 open-label = 0x40 ∷ 0x01 ∷ 0x20 ∷ 0x00 ∷ 0x00 ∷ 0x00 ∷ 0x00 ∷ 0x00 ∷ []
 
 pub label-opened : ReadOpened powered 0 open-label (replicate 8 0) (replicate 32 0) (map asks label-parts)
-unfolding label-parts opened observer-opened recordCall
+unfolding label-parts opened observer-opened record-call
 label-opened =
     record {
       answered = refl;

@@ -9,8 +9,8 @@ use lib.ListN.{take}
 use Rattle.order.specs.Talk.{idle}
 use Rattle.order.specs.Observe.{follow}
 use Rattle.order.specs.Bytes.{heard, reads}
-use Rattle.sdo.specs.Lines.{gauge, eight, twoLines, eightCodec, BoardCall}
-use Rattle.sdo.specs.Records.{RecordBoard, recordCall, recordTalk, RecordParts, NoReset, recordGot}
+use Rattle.sdo.specs.Lines.{gauge, eight, two-lines, eight-codec, BoardCall}
+use Rattle.sdo.specs.Records.{RecordBoard, record-call, record-talk, RecordParts, NoReset, record-got}
 use Rattle.sdo.proofs.DemandRecords.{record-finished, record-not-finished}
 use Rattle.board.specs.Gauge.{bag552}
 use Rattle.board.specs.Calls.{power-up-call}
@@ -29,7 +29,7 @@ module _ (a : Arrays) (ok : Lent a) (line : ℕ) (m room bytes : List ℕ) (cs :
   ds = calls-in (history a′ cs)
 
   -- the opening is the board's call
-  opened-board : recordCall bag552 (board-in a) (heard (line-of line) m) ≡ (board-in a′, take 8 (back′ .room))
+  opened-board : record-call bag552 (board-in a) (heard (line-of line) m) ≡ (board-in a′, take 8 (back′ .room))
   unfolding event-of answer-by
   opened-board =
       subst
@@ -37,7 +37,7 @@ module _ (a : Arrays) (ok : Lent a) (line : ℕ) (m room bytes : List ℕ) (cs :
       (r .answered) (fine a ok (to-message line m room) .1)
 
   abbrev from : RecordBoard bag552
-  from = (recordCall bag552 (board-in a) (heard (line-of line) m)) .0
+  from = (record-call bag552 (board-in a) (heard (line-of line) m)) .0
 
   from-is : board-in a′ ≡ from
   from-is = sym (ap (λ (x : RecordBoard bag552 × List ℕ). x .0) opened-board)
@@ -45,10 +45,10 @@ module _ (a : Arrays) (ok : Lent a) (line : ℕ) (m room bytes : List ℕ) (cs :
   parts : RecordParts bag552 (line-of line) (board-in a) m ds
   parts = record { right = r .right; calm = subst (λ (b : RecordBoard bag552). NoReset bag552 b ds) from-is (r .calm) }
 
-  same-value : value-got (line-of line) (history a′ cs) ≡ recordGot bag552 (line-of line) (board-in a) m ds
+  same-value : value-got (line-of line) (history a′ cs) ≡ record-got bag552 (line-of line) (board-in a) m ds
   same-value =
-      ap (λ (ps : List Answered). follow (gauge bag552) (twoLines idle) (λ l. eight) (line-of line) (map (reads (gauge bag552) (twoLines idle) (λ l. eight) (λ l. eightCodec)) ps) [])
-      (told cs a′ (fine a ok (to-message line m room) .0) .same-answers ∙ ap (λ (b : RecordBoard bag552). recordTalk bag552 b ds) from-is)
+      ap (λ (ps : List Answered). follow (gauge bag552) (two-lines idle) (λ l. eight) (line-of line) (map (reads (gauge bag552) (two-lines idle) (λ l. eight) (λ l. eight-codec)) ps) [])
+      (told cs a′ (fine a ok (to-message line m room) .0) .same-answers ∙ ap (λ (b : RecordBoard bag552). record-talk bag552 b ds) from-is)
 
   pub exact-parts-from : ExactParts a line m room bytes cs
   exact-parts-from =

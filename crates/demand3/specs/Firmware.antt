@@ -7,18 +7,18 @@ use mathlib.Core.List.{List, [], _∷_, map}
 use mathlib.Core.Option.{Option, none, some, Option·map}
 use lib.Dec.{eqb}
 use lib.ListN.{length, take}
-use Rattle.order.specs.Talk.{idle, openRead, value}
-use Rattle.order.specs.Gauge.{results, endOf}
+use Rattle.order.specs.Talk.{idle, open-read, value}
+use Rattle.order.specs.Gauge.{results, end-of}
 use Rattle.order.specs.Observe.{Done, follow}
-use Rattle.order.specs.Promise.{endsWrite, opsOf, gotOf, Right}
+use Rattle.order.specs.Promise.{ends-write, ops-of, got-of, Right}
 use Rattle.order.specs.Bytes.{heard, fed, meant, reads, client}
 use Rattle.trip.specs.Trip.{all-off}
 use Rattle.gauge.specs.Memory.{Store, memory-of}
 use Rattle.gauge.specs.PowerUp.{fresh-values}
 use Rattle.gauge.specs.Whole.{read-whole}
 use Rattle.sdo.specs.declared.Key.{Key}
-use Rattle.sdo.specs.Eight.{askOf, tellOf}
-use Rattle.sdo.specs.Lines.{gauge, eight, Line, tool, service, twoLines, eightCodec, BoardCall, partsAsked}
+use Rattle.sdo.specs.Eight.{ask-of, tell-of}
+use Rattle.sdo.specs.Lines.{gauge, eight, Line, tool, service, two-lines, eight-codec, BoardCall, parts-asked-in}
 use Rattle.sdo.specs.Records.{RecordBoard, NoReset}
 use Rattle.state.specs.State.{record-at}
 use Rattle.board.specs.Gauge.{Sample, bag552}
@@ -91,9 +91,9 @@ unfoldable pub answer-by : Back → Option (List ℕ)
 answer-by b = cond (eqb (b .number) 0) (some (take 8 (b .room))) (cond (eqb (b .number) 5) (some []) none)
 
 -- does the observer see this message end a write with yes? A refused call does not
-unfoldable pub ends-write : List ℕ → Option (List ℕ) → Bool
-ends-write m none = false
-ends-write m (some bytes) = endsWrite (askOf m) (tellOf bytes)
+unfoldable pub write-seen-ended : List ℕ → Option (List ℕ) → Bool
+write-seen-ended m none = false
+write-seen-ended m (some bytes) = ends-write (ask-of m) (tell-of bytes)
 
 -- a call and its answer's bytes, as demand 3 has them. An image is no event
 abbrev pub Answered : Type 0
@@ -118,7 +118,7 @@ calls-in ps = map (λ (p : Answered). p .0) (events ps)
 
 -- the finished operations, in their order, each with what it got
 unfoldable pub observed : List (Exported × Back) → List (Done (gauge bag552))
-observed ps = client (gauge bag552) (twoLines idle) (λ l. eight) (λ l. eightCodec) (events ps)
+observed ps = client (gauge bag552) (two-lines idle) (λ l. eight) (λ l. eight-codec) (events ps)
 
 -- ---- the plain gauge's side
 
@@ -132,7 +132,7 @@ store-in a = store-of (a .values) (a .block) (a .state)
 
 -- the board that the arrays stand for
 abbrev pub board-in : Arrays → RecordBoard bag552
-board-in a = record { store = store-in a; records = record { onTool = record-at (a .state) 0; onService = record-at (a .state) 96 } }
+board-in a = record { store = store-in a; records = record { on-tool = record-at (a .state) 0; on-service = record-at (a .state) 96 } }
 
 -- ---- DEMAND 3, of the calls that C firmware makes (R15.7)
 
@@ -142,8 +142,8 @@ module _ (values block state : List ℕ) (cs : List Exported) where
   run-of = observed (history (power-on values block state) cs)
 
   pub record Demand3Calls : Type 0 where
-    pub same-results : results (gauge bag552) (powered-store block) (opsOf (gauge bag552) run-of) ≡ gotOf (gauge bag552) run-of
-    pub same-end : endOf (gauge bag552) (powered-store block) (opsOf (gauge bag552) run-of) ≡ store-in (final (power-on values block state) cs)
+    pub same-results : results (gauge bag552) (powered-store block) (ops-of (gauge bag552) run-of) ≡ got-of (gauge bag552) run-of
+    pub same-end : end-of (gauge bag552) (powered-store block) (ops-of (gauge bag552) run-of) ≡ store-in (final (power-on values block state) cs)
 
 -- ---- THE COUNT OF PARTS, of the same calls
 
@@ -153,22 +153,22 @@ arrays-after a line m room = (exported a (to-message line m room)) .0
 
 -- the value that the client has after these calls, if the read that it opened on the line before them is finished
 abbrev pub value-got : Line → List (Exported × Back) → Option (List ℕ)
-value-got l ps = follow (gauge bag552) (twoLines idle) (λ l. eight) l (map (reads (gauge bag552) (twoLines idle) (λ l. eight) (λ l. eightCodec)) (events ps)) []
+value-got l ps = follow (gauge bag552) (two-lines idle) (λ l. eight) l (map (reads (gauge bag552) (two-lines idle) (λ l. eight) (λ l. eight-codec)) (events ps)) []
 
 -- how many messages the line's client sends among these calls
 abbrev pub parts-asked : Line → List (Exported × Back) → ℕ
-parts-asked l ps = partsAsked bag552 l (calls-in ps)
+parts-asked l ps = parts-asked-in bag552 l (calls-in ps)
 
 -- a message that is answered opens a read of an entry that holds these bytes, more than four, and these calls come after it: the line's own
 -- messages among them ask for parts with right toggles, and no device reset is done (R6.6)
 pub record ReadOpened (a : Arrays) (line : ℕ) (m room bytes : List ℕ) (cs : List Exported) : Type 0 where
   pub answered : (exported a (to-message line m room)) .1 .number ≡ 0
   pub key : Key
-  pub opens : askOf m ≡ openRead key
+  pub opens : ask-of m ≡ open-read key
   pub holds : read-whole (store-in a) (key .index) (key .sub) ≡ value bytes
   pub long : 4 < length bytes
-  pub right : Right (gauge bag552) (twoLines idle) (λ l. eight) (line-of line)
-      (map (meant (gauge bag552) (twoLines idle) (λ l. eight) (λ l. eightCodec)) (calls-in (history (arrays-after a line m room) cs))) false
+  pub right : Right (gauge bag552) (two-lines idle) (λ l. eight) (line-of line)
+      (map (meant (gauge bag552) (two-lines idle) (λ l. eight) (λ l. eight-codec)) (calls-in (history (arrays-after a line m room) cs))) false
   pub calm : NoReset bag552 (board-in (arrays-after a line m room)) (calls-in (history (arrays-after a line m room) cs))
 
 -- the read is finished by exactly L/7 parts, rounded up

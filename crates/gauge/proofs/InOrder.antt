@@ -9,7 +9,7 @@ use native.Mathlib.Omega.{arith}
 use lib.Dec.{ltb}
 use lib.ListN.{length, getD}
 use Rattle.order.specs.Talk.{Said, announced, unsaid, own, Sizes, sizes, closed, Outcome, declined}
-use Rattle.order.specs.Gauge.{Gauge, tooLong, tooShort, narrowed, narrow, counted, judged, judgedBy, writeWhole}
+use Rattle.order.specs.Gauge.{Gauge, too-long, too-short, narrowed, narrow, counted, judged, judged-by, write-whole}
 use Rattle.table.specs.Find.{find-row}
 use Rattle.table.specs.declared.Found.{Found}
 use Rattle.entry.specs.Limits.{verdict-code}
@@ -96,8 +96,8 @@ module _ (K S : Type 0) (index sub : K → ℕ) (sampled : Store → S → Store
         Store = Store;
         Key = K;
         Sample = S;
-        readWhole = λ g k. read-whole g (index k) (sub k);
-        rowOf = λ k. write-sizes (index k) (sub k);
+        read-whole = λ g k. read-whole g (index k) (sub k);
+        write-sizes = λ k. write-sizes (index k) (sub k);
         commit = λ g k bytes. commit-whole g (index k) (sub k) bytes;
         sampled = sampled;
       }
@@ -110,7 +110,7 @@ module _ (K S : Type 0) (index sub : K → ℕ) (sampled : Store → S → Store
     step true t o rest done e = refl
     step false t o rest done e = e
 
-    over : (s : Said) (b : Bool) (x y : Sizes) → judgedBy plain g k s bytes (cond b x y) ≡ cond b (judgedBy plain g k s bytes x) (judgedBy plain g k s bytes y)
+    over : (s : Said) (b : Bool) (x y : Sizes) → judged-by plain g k s bytes (cond b x y) ≡ cond b (judged-by plain g k s bytes x) (judged-by plain g k s bytes y)
     over s true x y = refl
     over s false x y = refl
 
@@ -123,14 +123,14 @@ module _ (K S : Type 0) (index sub : K → ℕ) (sampled : Store → S → Store
     -- the four tests of the length
     lengths : (low high : ℕ) (s : Said) (rest : Option Test) (done : Outcome Memory) → let x = counted s high bytes in
         commit-whole g (index k) (sub k) x ≡ with-trips g (unless-refused rest declined done)
-        → judgedBy plain g k s bytes (narrowed low high s)
+        → judged-by plain g k s bytes (narrowed low high s)
         ≡ with-trips g
         (unless-refused (cond (says-above high s) (some announced-long) (cond (says-below low s) (some announced-short) (cond (ltb (most high s) (length x)) (some sent-long) (cond (ltb (length x) (least low high s)) (some sent-short) rest)))) declined done)
-    unfolding narrowed judgedBy counted says-above says-below most least code-of
+    unfolding narrowed judged-by counted says-above says-below most least code-of
     lengths low high (announced n) rest done e =
-        over (announced n) (ltb high n) (closed tooLong) (cond (ltb n low) (closed tooShort) (sizes n n))
+        over (announced n) (ltb high n) (closed too-long) (cond (ltb n low) (closed too-short) (sizes n n))
         ∙ step (ltb high n) announced-long _ _ done
-        (over (announced n) (ltb n low) (closed tooShort) (sizes n n) ∙ step (ltb n low) announced-short _ _ done (counts n n bytes rest done e))
+        (over (announced n) (ltb n low) (closed too-short) (sizes n n) ∙ step (ltb n low) announced-short _ _ done (counts n n bytes rest done e))
     lengths low high unsaid rest done e = counts low high bytes rest done e
     lengths low high own rest done e = counts high high (counted own high bytes) rest done e
 
@@ -150,12 +150,12 @@ module _ (K S : Type 0) (index sub : K → ℕ) (sampled : Store → S → Store
       committed e = ap (with-trips g) (parted (asked found unsaid (sent all-asked) (g .memory .values)) key-order last-order declined done ∙ rw e)
 
       by-key : (o : Option Test) → refused-by (asked-key found) key-order ≡ o
-          → judgedBy plain g k s bytes (narrow (unless-refused o closed (sizes (smallest (number-asked all-asked)) (largest (number-asked all-asked)))) s)
+          → judged-by plain g k s bytes (narrow (unless-refused o closed (sizes (smallest (number-asked all-asked)) (largest (number-asked all-asked)))) s)
           ≡ with-trips g (unless-refused o declined (unless-refused (refused-by all-asked (length-order ++ last-order)) declined done))
-      unfolding narrow judgedBy with-trips unless-refused refused-by length-order last-order fails
+      unfolding narrow judged-by with-trips unless-refused refused-by length-order last-order fails
       by-key none e = lengths (smallest (number-asked all-asked)) (largest (number-asked all-asked)) s (refused-by all-asked last-order) done (committed e)
       by-key (some t) e = refl
 
-      pub write-in-order : writeWhole plain g k s bytes ≡ write-checked g all-asked
-      unfolding writeWhole write-sizes sizes-checked write-checked write-by write-order refused-by key-order fails
+      pub write-in-order : write-whole plain g k s bytes ≡ write-checked g all-asked
+      unfolding write-whole write-sizes sizes-checked write-checked write-by write-order refused-by key-order fails
       write-in-order = by-key (refused-by (asked-key found) key-order) refl ∙ ap (with-trips g) (sym (parted all-asked key-order (length-order ++ last-order) declined done))

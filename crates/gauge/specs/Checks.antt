@@ -7,7 +7,7 @@ use Prim.Native.Nat.{ℕ}
 use lib.Dec.{ltb, eqb}
 use lib.ListN.{length}
 use Rattle.order.specs.Talk.{Said, announced, unsaid, own}
-use Rattle.order.specs.Gauge.{tooLong, tooShort, counted}
+use Rattle.order.specs.Gauge.{too-long, too-short, counted}
 use Rattle.table.specs.Row.{Row, RO, WO, CARD}
 use Rattle.table.specs.Rows.{row-count, at-row}
 use Rattle.table.specs.declared.Found.{Found}
@@ -95,10 +95,10 @@ code-of no-such-index = index-absent
 code-of no-such-subindex = subindex-absent
 code-of only-written = write-only
 code-of only-read = read-only
-code-of announced-long = tooLong
-code-of announced-short = tooShort
-code-of sent-long = tooLong
-code-of sent-short = tooShort
+code-of announced-long = too-long
+code-of announced-short = too-short
+code-of sent-long = too-long
+code-of sent-short = too-short
 code-of under-lock = lock-shut
 code-of no-number = verdict-code NotANumber
 code-of too-high = verdict-code Above

@@ -16,17 +16,17 @@ use Rattle.gauge.specs.Memory.{memory-of}
 use Rattle.gauge.specs.Whole.{commit-row}
 use Rattle.sdo.specs.declared.Key.{Key}
 use Rattle.sdo.specs.declared.Transfer.{Transfer}
-use Rattle.sdo.specs.Eight.{answerOf}
+use Rattle.sdo.specs.Eight.{answer-of}
 use Rattle.sdo.specs.Lines.{short}
-use Rattle.sdo.specs.Records.{allZero, keyAt, counts}
-use Rattle.sdo.specs.Replies.{Act, Done, Reply, ending, going, committing, refusal, is-reading, givenReply, nextPartReply, openReadReply, openWriteBy, openWriteReply}
+use Rattle.sdo.specs.Records.{zero-record, key-at, counts}
+use Rattle.sdo.specs.Replies.{Act, Done, Reply, ending, going, committing, refusal, is-reading, given-reply, next-part-reply, open-read-reply, open-write-by, open-write-reply}
 use Rattle.state.specs.State.{record-bytes, settled}
-use Rattle.line.specs.Answering.{through, open-read, concluded, act-by, Kept, kept, replied, Told, told, told-by, answered}
+use Rattle.line.specs.Answering.{through, opens-read, concluded, act-by, Kept, kept, replied, Told, told, told-by, answered}
 
 -- ---- the record in the state, and the answer
 
 module _ (at : ℕ) (s eight : List ℕ) {s′ : List ℕ} where
-  pub ended-kept : s′ ≡ splice s at (record-bytes allZero) → kept s′ eight ≡ replied at s (ending eight)
+  pub ended-kept : s′ ≡ splice s at (record-bytes zero-record) → kept s′ eight ≡ replied at s (ending eight)
   unfolding replied
   ended-kept e = rw e
 
@@ -35,9 +35,9 @@ module _ (at : ℕ) (s eight : List ℕ) {s′ : List ℕ} where
   going-kept t e = rw e
 
 -- an abort that names the row's entry
-pub refused-row : (at : ℕ) (s : List ℕ) (row code : ℕ) {k : Key} {x : Kept} → k ≡ keyAt row → x ≡ replied at s (ending (answerOf (refused k code)))
+pub refused-row : (at : ℕ) (s : List ℕ) (row code : ℕ) {k : Key} {x : Kept} → k ≡ key-at row → x ≡ replied at s (ending (answer-of (refused k code)))
     → x ≡ replied at s (refusal row code)
-refused-row at s row code key q = q ∙ ap (λ (z : Key). replied at s (ending (answerOf (refused z code)))) key
+refused-row at s row code key q = q ∙ ap (λ (z : Key). replied at s (ending (answer-of (refused z code)))) key
 
 -- ---- with the memory
 
@@ -64,25 +64,25 @@ unfolding pick
 pick-done true x y p q = p
 pick-done false x y p q = q
 
-pub next-done : (t : Transfer) (u : Bool) → (nextPartReply t u) .act ≡ Done
-unfolding nextPartReply givenReply
+pub next-done : (t : Transfer) (u : Bool) → (next-part-reply t u) .act ≡ Done
+unfolding next-part-reply given-reply
 next-done t u =
     pick-done (is-reading (t .direction) && counts t) _ _
     (pick-done (Bool·beq (t .toggle) u) _ _ (pick-done (leb (t .len) (t .place + 7)) _ _ refl refl) refl)
     refl
 
-pub read-done : (k : Key) (values : List ℕ) → (through (read-gate (find-row (k .index) (k .sub))) k (open-read values)) .act ≡ Done
-unfolding through open-read openReadReply
+pub read-done : (k : Key) (values : List ℕ) → (through (read-gate (find-row (k .index) (k .sub))) k (opens-read values)) .act ≡ Done
+unfolding through opens-read open-read-reply
 read-done k values = go (read-gate (find-row (k .index) (k .sub)))
   where
-    go : (w : Way) → (through w k (open-read values)) .act ≡ Done
+    go : (w : Way) → (through w k (opens-read values)) .act ≡ Done
     go (to-row row) = pick-done (short (at-row row .len)) _ _ refl refl
     go (no-way c) = refl
 
-pub write-done : (row : ℕ) (said : Said) → (openWriteReply row said) .act ≡ Done
-unfolding openWriteReply openWriteBy
+pub write-done : (row : ℕ) (said : Said) → (open-write-reply row said) .act ≡ Done
+unfolding open-write-reply open-write-by
 write-done row said = go (narrowed (at-row row .len) (at-row row .len) said)
   where
-    go : (z : Sizes) → (openWriteBy row z) .act ≡ Done
+    go : (z : Sizes) → (open-write-by row z) .act ≡ Done
     go (sizes low high) = refl
     go (closed c) = refl

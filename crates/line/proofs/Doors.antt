@@ -19,13 +19,13 @@ use Rattle.gate.proofs.GateLaws.{opened, shaped}
 use Rattle.gauge.specs.Whole.{value-of}
 use Rattle.gauge.proofs.ValueLaws.{value-length, stored-value}
 use Rattle.sdo.specs.declared.Key.{Key}
-use Rattle.sdo.specs.Eight.{answerOf}
-use Rattle.sdo.specs.Records.{keyAt}
-use Rattle.sdo.specs.Replies.{Reply, ending, filled, openReadReply}
+use Rattle.sdo.specs.Eight.{answer-of}
+use Rattle.sdo.specs.Records.{key-at}
+use Rattle.sdo.specs.Replies.{Reply, ending, filled, open-read-reply}
 use Rattle.sdo.specs.Lines.{short}
 use Rattle.sdo.proofs.RecordLaws.{found-key}
 use Rattle.sdo.proofs.ReplyLaws.{filled-value, read-short}
-use Rattle.line.specs.Answering.{through, open-read}
+use Rattle.line.specs.Answering.{through, opens-read}
 
 -- ---- through a gate
 
@@ -36,7 +36,7 @@ module _ (barred code : ℕ) (k : Key) {g : Gate} (way : way-of g ≡ gate barre
   leads row s q = sym way ∙ ap way-of q
 
   -- what an open gate gives its caller: the row is in the table, the key is the row's, the shape too
-  pub open-row : (row s : ℕ) → Shaped g → g ≡ Open row s → (row < row-count) × (k ≡ keyAt row) × (s ≡ shape (at-row row))
+  pub open-row : (row s : ℕ) → Shaped g → g ≡ Open row s → (row < row-count) × (k ≡ key-at row) × (s ≡ shape (at-row row))
   open-row row s h q =
       let o = opened barred code (k .index) (k .sub) row (find-row (k .index) (k .sub)) refl (leads row s q) in
       (find-at (k .index) (k .sub) row (o .found) .there, found-key k row (o .found), shaped row s h q)
@@ -47,13 +47,13 @@ module _ (barred code : ℕ) (k : Key) {g : Gate} (way : way-of g ≡ gate barre
     unfolding through
     open-reply row s q = rw (leads row s q)
 
-    pub shut-reply : (c : ℕ) → g ≡ Shut c → ending (answerOf (refused k c)) ≡ through (gate barred code (find-row (k .index) (k .sub))) k f
+    pub shut-reply : (c : ℕ) → g ≡ Shut c → ending (answer-of (refused k c)) ≡ through (gate barred code (find-row (k .index) (k .sub))) k f
     unfolding through way-of
     shut-reply c q = rw (sym way ∙ ap way-of q)
 
 pub read-reply : (values : List ℕ) (row : ℕ) {held : List ℕ} {len : ℕ} {x : Reply} → held ≡ filled (value-of (at-row row) values) → len ≡ at-row row .len
-    → x ≡ openReadReply row held len → x ≡ open-read values row
-unfolding open-read
+    → x ≡ open-read-reply row held len → x ≡ opens-read values row
+unfolding opens-read
 read-reply values row eh el e = e ∙ rw (eh, el)
 
 -- a short read is answered with the value
@@ -69,5 +69,5 @@ module _ (values : List ℕ) (row : ℕ) (there : row < row-count) (long : lengt
       let v = stored-value row there values l ∙ ap (λ (n : ℕ). take n (drop (at-row row .place) values)) (sym el) in
       ap (take len) (e ∙ sym v) ∙ ap (λ (n : ℕ). take n (value-of (at-row row) values)) (el ∙ sym (value-length row there values long)) ∙ take-length (value-of (at-row row) values)
 
-  pub read-shown : {k : Key} {eight : List ℕ} → k ≡ keyAt row → short len ≡ true → eight ≡ answerOf (told k len (value-of (at-row row) values) true) → ending eight ≡ open-read values row
-  read-shown {k} key s e = read-reply values row refl el (read-short row key (filled (value-of (at-row row) values)) len s (e ∙ ap (λ (l : List ℕ). answerOf (told k len l true)) (sym value-filled)))
+  pub read-shown : {k : Key} {eight : List ℕ} → k ≡ key-at row → short len ≡ true → eight ≡ answer-of (told k len (value-of (at-row row) values) true) → ending eight ≡ opens-read values row
+  read-shown {k} key s e = read-reply values row refl el (read-short row key (filled (value-of (at-row row) values)) len s (e ∙ ap (λ (l : List ℕ). answer-of (told k len l true)) (sym value-filled)))

@@ -13,26 +13,26 @@ use Rattle.gauge.specs.Endings.{Left, left-by}
 use Rattle.gauge.specs.Endings as gauge
 use Rattle.gauge.specs.declared.commit.Ending.{Ending}
 use Rattle.gauge.specs.declared.commit.Ending.the-variants.{Accepted, Restarted, Refused}
-use Rattle.sdo.specs.Eight.{answerOf}
-use Rattle.sdo.specs.Records.{allZero, keyAt}
+use Rattle.sdo.specs.Eight.{answer-of}
+use Rattle.sdo.specs.Records.{zero-record, key-at}
 use Rattle.state.specs.State.{settled}
 use Rattle.line.specs.Answering.{acted, concluded, told, told-by, state-by, eight-by}
 
 module _ (m : Memory) (row : ℕ) (eight v b : List ℕ) {e : Ending} where
-  accepted-end : (o : Outcome Memory) → gauge.left e v b ≡ left-by m o → e ≡ Accepted → acted (memory-of v b) allZero false eight ≡ concluded m row eight o
+  accepted-end : (o : Outcome Memory) → gauge.left e v b ≡ left-by m o → e ≡ Accepted → acted (memory-of v b) zero-record false eight ≡ concluded m row eight o
   unfolding concluded left-by
   accepted-end (stored n) q i = rw (ap (λ (l : Left). l .values) q, ap (λ (l : Left). l .block) q)
   accepted-end (restarted n) q i = let z : _≡_ {A = ℕ} 0 1 = cc (ap (λ (l : Left). l .ending) q) in absurd (omega arith)
   accepted-end (declined c) q i = let z : _≡_ {A = ℕ} 0 1 = cc (ap (λ (l : Left). l .ending) q) in absurd (omega arith)
 
-  restarted-end : (o : Outcome Memory) → gauge.left e v b ≡ left-by m o → e ≡ Restarted → acted (memory-of v b) allZero true eight ≡ concluded m row eight o
+  restarted-end : (o : Outcome Memory) → gauge.left e v b ≡ left-by m o → e ≡ Restarted → acted (memory-of v b) zero-record true eight ≡ concluded m row eight o
   unfolding concluded left-by
   restarted-end (stored n) q i = let z : _≡_ {A = ℕ} 0 1 = cc (ap (λ (l : Left). l .ending) q) in absurd (omega arith)
   restarted-end (restarted n) q i = rw (ap (λ (l : Left). l .values) q, ap (λ (l : Left). l .block) q)
   restarted-end (declined c) q i = let z : _≡_ {A = ℕ} 0 1 = cc (ap (λ (l : Left). l .ending) q) in absurd (omega arith)
 
   refused-end : (o : Outcome Memory) (code : ℕ) → gauge.left e v b ≡ left-by m o → e ≡ Refused code
-      → acted (memory-of v b) allZero false (answerOf (refused (keyAt row) code)) ≡ concluded m row eight o
+      → acted (memory-of v b) zero-record false (answer-of (refused (key-at row) code)) ≡ concluded m row eight o
   unfolding concluded left-by
   refused-end (stored n) code q i = let z : _≡_ {A = ℕ} 0 1 = cc (ap (λ (l : Left). l .ending) q) in absurd (omega arith)
   refused-end (restarted n) code q i = let z : _≡_ {A = ℕ} 0 1 = cc (ap (λ (l : Left). l .ending) q) in absurd (omega arith)

@@ -7,7 +7,7 @@ use sdo::Message;
 use sdo::answer;
 ghost use mathlib.Core.Path.{_≡_};
 ghost use lib.ListN.{length};
-ghost use Rattle.sdo.specs.Eight.{messageOf};
+ghost use Rattle.sdo.specs.Eight.{message-of};
 ghost use Rattle.state.specs.State.{record-at};
 ghost use Rattle.line.specs.Answering.{is-abort, reply-to, Ready, told, answered};
 
@@ -34,7 +34,7 @@ pub fn speak(
     said: Message,
     m: &[u8],
 ) -> [u8; 8]
-    requires { ⌜ Ready at (now values) (now block) (now state) × (length (now m) ≡ 8) × (said ≡ messageOf (now m)) ⌝ }
+    requires { ⌜ Ready at (now values) (now block) (now state) × (length (now m) ≡ 8) × (said ≡ message-of (now m)) ⌝ }
     ensures { λ r. ⌜ told (now (values .exit)) (now (block .exit)) (now (state .exit)) r ≡ answered at (now (values .entry)) (now (block .entry)) (now (state .entry)) (reply-to said (now (m .entry)) (now (values .entry)) (record-at (now (state .entry)) at)) ⌝ }
 {
     match said {

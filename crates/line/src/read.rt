@@ -17,16 +17,16 @@ ghost use Rattle.find.specs.Columns.{shape as row-shape};
 ghost use Rattle.table.specs.Find.{find-row};
 ghost use Rattle.gate.specs.Gates.{read-gate};
 ghost use Rattle.gauge.specs.Whole.{value-of};
-ghost use Rattle.sdo.specs.Eight.{answerOf};
-ghost use Rattle.sdo.specs.Records.{keyAt};
-ghost use Rattle.sdo.specs.Replies.{givenReply, nextPartReply};
+ghost use Rattle.sdo.specs.Eight.{answer-of};
+ghost use Rattle.sdo.specs.Records.{key-at};
+ghost use Rattle.sdo.specs.Replies.{given-reply, next-part-reply};
 ghost use Rattle.state.specs.State.{record-at};
-ghost use Rattle.line.specs.Answering.{kept, replied, through, open-read};
+ghost use Rattle.line.specs.Answering.{kept, replied, through, opens-read};
 
 // The next part of a read that counts.
 fn give_part(state: &mut [u8], at: usize, t: Transfer) -> [u8; 8]
     requires { ⌜ (at + 70 ≤ length (now state)) × (t .len ≤ 64) × (t .place ≤ t .len) ⌝ }
-    ensures { λ r. ⌜ kept (now (state .exit)) r ≡ replied at (now (state .entry)) (givenReply t) ⌝ }
+    ensures { λ r. ⌜ kept (now (state .exit)) r ≡ replied at (now (state .entry)) (given-reply t) ⌝ }
 {
     let held = t.held;
     let len = t.len;
@@ -45,7 +45,7 @@ fn give_part(state: &mut [u8], at: usize, t: Transfer) -> [u8; 8]
 
 pub fn next_part(state: &mut [u8], at: usize, toggle: bool) -> [u8; 8]
     requires { ⌜ at + 70 ≤ length (now state) ⌝ }
-    ensures { λ r. ⌜ kept (now (state .exit)) r ≡ replied at (now (state .entry)) (nextPartReply (record-at (now (state .entry)) at) toggle) ⌝ }
+    ensures { λ r. ⌜ kept (now (state .exit)) r ≡ replied at (now (state .entry)) (next-part-reply (record-at (now (state .entry)) at) toggle) ⌝ }
 {
     let t = state::record_at(state, at);
     let row = t.row;
@@ -62,8 +62,8 @@ pub fn next_part(state: &mut [u8], at: usize, toggle: bool) -> [u8; 8]
 // The answer that opens a read of up to four bytes. An entry that stands in the values is shown from there, with no copy; the card is
 // longer, so the rest are command words.
 fn short_answer(values: &[u8], k: Key, row: usize, kind: u8, len: usize) -> [u8; 8]
-    requires { ⌜ (length (now values) ≡ 1024) × ((row < row-count) × (k ≡ keyAt row)) × (kind ≡ at-row row .kind) × (len ≡ at-row row .len) × ((1 ≤ len) × (len ≤ 4)) ⌝ }
-    ensures { λ r. ⌜ r ≡ answerOf (opened k len (value-of (at-row row) (now (values .entry))) true) ⌝ }
+    requires { ⌜ (length (now values) ≡ 1024) × ((row < row-count) × (k ≡ key-at row)) × (kind ≡ at-row row .kind) × (len ≡ at-row row .len) × ((1 ≤ len) × (len ≤ 4)) ⌝ }
+    ensures { λ r. ⌜ r ≡ answer-of (opened k len (value-of (at-row row) (now (values .entry))) true) ⌝ }
 {
     if kind < 7 {
         let place = find::field::place_of(row);
@@ -75,8 +75,8 @@ fn short_answer(values: &[u8], k: Key, row: usize, kind: u8, len: usize) -> [u8;
 
 // A read is opened on the row of its key.
 fn open_row(values: &[u8], state: &mut [u8], at: usize, k: Key, row: usize, shape: u16) -> [u8; 8]
-    requires { ⌜ (length (now values) ≡ 1024) × (at + 70 ≤ length (now state)) × (row < row-count) × (k ≡ keyAt row) × (shape ≡ row-shape (at-row row)) ⌝ }
-    ensures { λ r. ⌜ kept (now (state .exit)) r ≡ replied at (now (state .entry)) (open-read (now (values .entry)) row) ⌝ }
+    requires { ⌜ (length (now values) ≡ 1024) × (at + 70 ≤ length (now state)) × (row < row-count) × (k ≡ key-at row) × (shape ≡ row-shape (at-row row)) ⌝ }
+    ensures { λ r. ⌜ kept (now (state .exit)) r ≡ replied at (now (state .entry)) (opens-read (now (values .entry)) row) ⌝ }
 {
     let kind = find::field::kind_in(shape);
     let len = find::field::len_in(shape);
@@ -90,7 +90,7 @@ fn open_row(values: &[u8], state: &mut [u8], at: usize, k: Key, row: usize, shap
 
 pub fn open_read(values: &[u8], state: &mut [u8], at: usize, k: Key) -> [u8; 8]
     requires { ⌜ (length (now values) ≡ 1024) × (at + 70 ≤ length (now state)) ⌝ }
-    ensures { λ r. ⌜ kept (now (state .exit)) r ≡ replied at (now (state .entry)) (through (read-gate (find-row (k .index) (k .sub))) k (open-read (now (values .entry)))) ⌝ }
+    ensures { λ r. ⌜ kept (now (state .exit)) r ≡ replied at (now (state .entry)) (through (read-gate (find-row (k .index) (k .sub))) k (opens-read (now (values .entry)))) ⌝ }
 {
     let gate = gate::to_read(k.index, k.sub);
     match gate {

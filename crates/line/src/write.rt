@@ -20,11 +20,11 @@ ghost use Rattle.gauge.specs.Endings.{left, left-by};
 ghost use Rattle.gauge.specs.Memory.{memory-of};
 ghost use Rattle.gauge.specs.Whole.{commit-row};
 ghost use Rattle.sdo.specs.declared.Message.the-variants.{OpenWrite};
-ghost use Rattle.sdo.specs.Eight.{messageOf};
-ghost use Rattle.sdo.specs.Records.{keyAt};
-ghost use Rattle.sdo.specs.Replies.{takenReply, sendPartReply, openWriteReply, valueReply, expeditedReply};
+ghost use Rattle.sdo.specs.Eight.{message-of};
+ghost use Rattle.sdo.specs.Records.{key-at};
+ghost use Rattle.sdo.specs.Replies.{taken-reply, send-part-reply, open-write-reply, value-reply, expedited-reply};
 ghost use Rattle.state.specs.State.{record-at};
-ghost use Rattle.line.specs.Answering.{Ready, kept, replied, told, answered, through, open-write, state-by, eight-by};
+ghost use Rattle.line.specs.Answering.{Ready, kept, replied, told, answered, through, opens-write, state-by, eight-by};
 
 // A whole write ends the transfer; after a device reset no line has one.
 fn conclude(
@@ -82,7 +82,7 @@ fn take_part(
     last: bool,
 ) -> [u8; 8]
     requires { ⌜ Ready at (now values) (now block) (now state) × ((length (now m) ≡ 8) × (count ≤ 7)) × (t .row < row-count) × (t .len ≡ at-row (t .row) .len) × (t .place ≤ t .len) × (t ≡ record-at (now state) at) ⌝ }
-    ensures { λ r. ⌜ told (now (values .exit)) (now (block .exit)) (now (state .exit)) r ≡ answered at (now (values .entry)) (now (block .entry)) (now (state .entry)) (takenReply t (take count (drop 1 (now (m .entry)))) last) ⌝ }
+    ensures { λ r. ⌜ told (now (values .exit)) (now (block .exit)) (now (state .exit)) r ≡ answered at (now (values .entry)) (now (block .entry)) (now (state .entry)) (taken-reply t (take count (drop 1 (now (m .entry)))) last) ⌝ }
 {
     let row = t.row;
     let len = t.len;
@@ -116,7 +116,7 @@ pub fn send_part(
     last: bool,
 ) -> [u8; 8]
     requires { ⌜ Ready at (now values) (now block) (now state) × (length (now m) ≡ 8) × (count ≤ 7) ⌝ }
-    ensures { λ r. ⌜ told (now (values .exit)) (now (block .exit)) (now (state .exit)) r ≡ answered at (now (values .entry)) (now (block .entry)) (now (state .entry)) (sendPartReply (record-at (now (state .entry)) at) toggle (take count (drop 1 (now (m .entry)))) last) ⌝ }
+    ensures { λ r. ⌜ told (now (values .exit)) (now (block .exit)) (now (state .exit)) r ≡ answered at (now (values .entry)) (now (block .entry)) (now (state .entry)) (send-part-reply (record-at (now (state .entry)) at) toggle (take count (drop 1 (now (m .entry)))) last) ⌝ }
 {
     let t = state::record_at(state, at);
     let row = t.row;
@@ -134,8 +134,8 @@ pub fn send_part(
 
 // A write in parts, of the row's own length, which is not announced.
 fn open_parts(state: &mut [u8], at: usize, k: Key, row: usize, len: usize) -> [u8; 8]
-    requires { ⌜ (at + 70 ≤ length (now state)) × (row < row-count) × (k ≡ keyAt row) × (len ≡ at-row row .len) ⌝ }
-    ensures { λ r. ⌜ kept (now (state .exit)) r ≡ replied at (now (state .entry)) (openWriteReply row unsaid) ⌝ }
+    requires { ⌜ (at + 70 ≤ length (now state)) × (row < row-count) × (k ≡ key-at row) × (len ≡ at-row row .len) ⌝ }
+    ensures { λ r. ⌜ kept (now (state .exit)) r ≡ replied at (now (state .entry)) (open-write-reply row unsaid) ⌝ }
 {
     let next = record::opened(Direction::Writes, row, [0; 64], len);
     reply::going(state, at, next, answer::write_opened(k))
@@ -143,8 +143,8 @@ fn open_parts(state: &mut [u8], at: usize, k: Key, row: usize, len: usize) -> [u
 
 // Its length is announced.
 fn open_announced(state: &mut [u8], at: usize, k: Key, row: usize, len: usize, n: u32) -> [u8; 8]
-    requires { ⌜ (at + 70 ≤ length (now state)) × (row < row-count) × (k ≡ keyAt row) × (len ≡ at-row row .len) ⌝ }
-    ensures { λ r. ⌜ kept (now (state .exit)) r ≡ replied at (now (state .entry)) (openWriteReply row (announced n)) ⌝ }
+    requires { ⌜ (at + 70 ≤ length (now state)) × (row < row-count) × (k ≡ key-at row) × (len ≡ at-row row .len) ⌝ }
+    ensures { λ r. ⌜ kept (now (state .exit)) r ≡ replied at (now (state .entry)) (open-write-reply row (announced n)) ⌝ }
 {
     let said = n as usize;
     if len < said {
@@ -168,8 +168,8 @@ fn with_value(
     len: usize,
     m: &[u8],
 ) -> [u8; 8]
-    requires { ⌜ Ready at (now values) (now block) (now state) × ((row < row-count) × (k ≡ keyAt row) × (kind ≡ at-row row .kind)) × (len ≡ at-row row .len) × (len ≤ 4) × (length (now m) ≡ 8) ⌝ }
-    ensures { λ r. ⌜ told (now (values .exit)) (now (block .exit)) (now (state .exit)) r ≡ answered at (now (values .entry)) (now (block .entry)) (now (state .entry)) (valueReply row len (now (m .entry))) ⌝ }
+    requires { ⌜ Ready at (now values) (now block) (now state) × ((row < row-count) × (k ≡ key-at row) × (kind ≡ at-row row .kind)) × (len ≡ at-row row .len) × (len ≤ 4) × (length (now m) ≡ 8) ⌝ }
+    ensures { λ r. ⌜ told (now (values .exit)) (now (block .exit)) (now (state .exit)) r ≡ answered at (now (values .entry)) (now (block .entry)) (now (state .entry)) (value-reply row len (now (m .entry))) ⌝ }
 {
     let ending = conclude(values, block, state, at, row, kind, &m[4..4 + len]);
     answer_by(ending, row, answer::write_opened(k))
@@ -188,8 +188,8 @@ fn write_sized(
     m: &[u8],
     count: usize,
 ) -> [u8; 8]
-    requires { ⌜ Ready at (now values) (now block) (now state) × ((row < row-count) × (k ≡ keyAt row) × (kind ≡ at-row row .kind)) × (len ≡ at-row row .len) × (length (now m) ≡ 8) × (count ≤ 4) ⌝ }
-    ensures { λ r. ⌜ told (now (values .exit)) (now (block .exit)) (now (state .exit)) r ≡ answered at (now (values .entry)) (now (block .entry)) (now (state .entry)) (expeditedReply row (announced count) (take count (drop 4 (now (m .entry))))) ⌝ }
+    requires { ⌜ Ready at (now values) (now block) (now state) × ((row < row-count) × (k ≡ key-at row) × (kind ≡ at-row row .kind)) × (len ≡ at-row row .len) × (length (now m) ≡ 8) × (count ≤ 4) ⌝ }
+    ensures { λ r. ⌜ told (now (values .exit)) (now (block .exit)) (now (state .exit)) r ≡ answered at (now (values .entry)) (now (block .entry)) (now (state .entry)) (expedited-reply row (announced count) (take count (drop 4 (now (m .entry))))) ⌝ }
 {
     if len < count {
         return reply::refused(state, at, k, 0x06070012);
@@ -212,8 +212,8 @@ fn write_own(
     len: usize,
     m: &[u8],
 ) -> [u8; 8]
-    requires { ⌜ Ready at (now values) (now block) (now state) × ((row < row-count) × (k ≡ keyAt row) × (kind ≡ at-row row .kind)) × (len ≡ at-row row .len) × (length (now m) ≡ 8) ⌝ }
-    ensures { λ r. ⌜ told (now (values .exit)) (now (block .exit)) (now (state .exit)) r ≡ answered at (now (values .entry)) (now (block .entry)) (now (state .entry)) (expeditedReply row own (take 4 (drop 4 (now (m .entry))))) ⌝ }
+    requires { ⌜ Ready at (now values) (now block) (now state) × ((row < row-count) × (k ≡ key-at row) × (kind ≡ at-row row .kind)) × (len ≡ at-row row .len) × (length (now m) ≡ 8) ⌝ }
+    ensures { λ r. ⌜ told (now (values .exit)) (now (block .exit)) (now (state .exit)) r ≡ answered at (now (values .entry)) (now (block .entry)) (now (state .entry)) (expedited-reply row own (take 4 (drop 4 (now (m .entry))))) ⌝ }
 {
     if 4 < len {
         return reply::refused(state, at, k, 0x06070013);
@@ -232,8 +232,8 @@ fn open_on(
     opening: Opening,
     m: &[u8],
 ) -> [u8; 8]
-    requires { ⌜ Ready at (now values) (now block) (now state) × ((row < row-count) × (k ≡ keyAt row) × (shape ≡ row-shape (at-row row))) × (length (now m) ≡ 8) × (messageOf (now m) ≡ OpenWrite k opening) ⌝ }
-    ensures { λ r. ⌜ told (now (values .exit)) (now (block .exit)) (now (state .exit)) r ≡ answered at (now (values .entry)) (now (block .entry)) (now (state .entry)) (open-write opening (now (m .entry)) row) ⌝ }
+    requires { ⌜ Ready at (now values) (now block) (now state) × ((row < row-count) × (k ≡ key-at row) × (shape ≡ row-shape (at-row row))) × (length (now m) ≡ 8) × (message-of (now m) ≡ OpenWrite k opening) ⌝ }
+    ensures { λ r. ⌜ told (now (values .exit)) (now (block .exit)) (now (state .exit)) r ≡ answered at (now (values .entry)) (now (block .entry)) (now (state .entry)) (opens-write opening (now (m .entry)) row) ⌝ }
 {
     let kind = find::field::kind_in(shape);
     let len = find::field::len_in(shape);
@@ -254,8 +254,8 @@ pub fn open_write(
     opening: Opening,
     m: &[u8],
 ) -> [u8; 8]
-    requires { ⌜ Ready at (now values) (now block) (now state) × (length (now m) ≡ 8) × (messageOf (now m) ≡ OpenWrite k opening) ⌝ }
-    ensures { λ r. ⌜ told (now (values .exit)) (now (block .exit)) (now (state .exit)) r ≡ answered at (now (values .entry)) (now (block .entry)) (now (state .entry)) (through (write-gate (find-row (k .index) (k .sub))) k (open-write opening (now (m .entry)))) ⌝ }
+    requires { ⌜ Ready at (now values) (now block) (now state) × (length (now m) ≡ 8) × (message-of (now m) ≡ OpenWrite k opening) ⌝ }
+    ensures { λ r. ⌜ told (now (values .exit)) (now (block .exit)) (now (state .exit)) r ≡ answered at (now (values .entry)) (now (block .entry)) (now (state .entry)) (through (write-gate (find-row (k .index) (k .sub))) k (opens-write opening (now (m .entry)))) ⌝ }
 {
     let gate = gate::to_write(k.index, k.sub);
     match gate {

@@ -9,11 +9,11 @@ use mathlib.Core.Option.{Option, none, some}
 use lib.Dec.{T, ltb, leb, leb→le, nleb→lt}
 use lib.ListN.{length, take}
 use lib.Seq.{take-add, take-all}
-use Rattle.order.specs.Talk.{Request, openRead, nextPart, expedited, openWrite, sendPart, giveUp, unknown, Answer, writeOpened, partTaken, wrongToggle, Read, value, denied, Sizes, sizes, closed, Outcome, stored, restarted, declined, Pending, idle, reading, writing, refused, noTransfer, silent}
-use Rattle.order.specs.Gauge.{Gauge, tooLong, say, judged, allowed, writeWhole, after}
-use Rattle.order.specs.Serve.{Form, Wires, After, kept, wiped, left, Served, over, readOpening, givePart, conclude, takePart, writeOpening, serve, Board, Event, message, sample, leave, step, trace}
+use Rattle.order.specs.Talk.{Request, open-read, next-part, expedited, open-write, send-part, give-up, unknown, Answer, write-opened, part-taken, wrong-toggle, Read, value, denied, Sizes, sizes, closed, Outcome, stored, restarted, declined, Pending, idle, reading, writing, refused, no-transfer, silent}
+use Rattle.order.specs.Gauge.{Gauge, too-long, say, judged, allowed, write-whole, after}
+use Rattle.order.specs.Serve.{Form, Wires, After, kept, wiped, left, Served, over, read-opening, give-part, conclude, take-part, write-opening, serve, Board, Event, message, sample, leave, step, trace}
 use Rattle.order.specs.Observe.{gain, if-yes, onward, pick, follow}
-use Rattle.order.specs.Promise.{endsWrite, isAbort, choose, Spares, Right, count, Calm, Ends}
+use Rattle.order.specs.Promise.{ends-write, is-abort, choose, Spares, Right, count, Calm, Ends}
 use Rattle.order.proofs.Serial.{by-cond, own-line}
 
 beq-refl : (t : Bool) → Bool·beq t t ≡ true
@@ -34,46 +34,46 @@ module _ (P : Gauge) where
   two true s s′ p q = p
   two false s s′ p q = q
 
-  still-read-opening : (form : Form) (g : P .Store) (k : P .Key) (r : Read) → (readOpening P form g k r) .store ≡ g
-  unfolding readOpening
+  still-read-opening : (form : Form) (g : P .Store) (k : P .Key) (r : Read) → (read-opening P form g k r) .store ≡ g
+  unfolding read-opening
   still-read-opening form g k (value bytes) = two (form .closes (length bytes)) _ _ refl refl
   still-read-opening form g k (denied c) = refl
 
-  still-write-opening : (g : P .Store) (k : P .Key) (bytes : List ℕ) (z : Sizes) → (writeOpening P g k bytes z) .store ≡ g
-  unfolding writeOpening
+  still-write-opening : (g : P .Store) (k : P .Key) (bytes : List ℕ) (z : Sizes) → (write-opening P g k bytes z) .store ≡ g
+  unfolding write-opening
   still-write-opening g k bytes (sizes low high) = two (ltb high (length bytes)) _ _ refl refl
   still-write-opening g k bytes (closed c) = refl
 
   still-part : (g : P .Store) (k : P .Key) (low high : ℕ) (all : List ℕ) (t t′ u : Bool) (bytes : List ℕ) (last d : Bool)
-      → endsWrite (sendPart u bytes last) ((cond d (takePart P g k low high all t last (partTaken t′)) (over P g (wrongToggle k))) .answer) ≡ false
-      → (cond d (takePart P g k low high all t last (partTaken t′)) (over P g (wrongToggle k))) .store ≡ g
-  unfolding takePart if-yes endsWrite
-  still-part g k low high all t t′ u bytes true true h = still-conclude g k (partTaken t′) (judged P g k low high all) refl h
+      → ends-write (send-part u bytes last) ((cond d (take-part P g k low high all t last (part-taken t′)) (over P g (wrong-toggle k))) .answer) ≡ false
+      → (cond d (take-part P g k low high all t last (part-taken t′)) (over P g (wrong-toggle k))) .store ≡ g
+  unfolding take-part if-yes ends-write
+  still-part g k low high all t t′ u bytes true true h = still-conclude g k (part-taken t′) (judged P g k low high all) refl h
   still-part g k low high all t t′ u bytes false true h = two (ltb high (length all)) _ _ refl refl
   still-part g k low high all t t′ u bytes last false h = refl
 
   -- THEOREM: dropped, refused or under way, nothing changes
   pub untouched : (form : Form) (g : P .Store) (x : Pending (P .Key)) (a : Request (P .Key))
-      → endsWrite a ((serve P form g x a) .answer) ≡ false → (serve P form g x a) .store ≡ g
-  unfolding serve if-yes Rattle.order.specs.Gauge.narrow endsWrite
-  untouched form g x (openRead k) h = still-read-opening form g k (P .readWhole g k)
-  untouched form g idle (nextPart u) h = refl
-  untouched form g (reading k bytes p t) (nextPart u) h =
-      two (Bool·beq t u) (givePart P form g k bytes p t) _ (two (leb (length bytes) (p + form .size)) _ _ refl refl) refl
-  untouched form g (writing k low high sent t) (nextPart u) h = refl
-  untouched form g x (expedited k s bytes) h = still-conclude g k (writeOpened k) (writeWhole P g k s bytes) refl h
-  untouched form g x (openWrite k n bytes) h = still-write-opening g k bytes (allowed P k (say n))
-  untouched form g idle (sendPart u bytes last) h = refl
-  untouched form g (reading k held p t) (sendPart u bytes last) h = refl
-  untouched form g (writing k low high sent t) (sendPart u bytes last) h = still-part g k low high (sent ++ bytes) (not t) t u bytes last (Bool·beq t u) h
-  untouched form g x giveUp h = refl
+      → ends-write a ((serve P form g x a) .answer) ≡ false → (serve P form g x a) .store ≡ g
+  unfolding serve if-yes Rattle.order.specs.Gauge.narrow ends-write
+  untouched form g x (open-read k) h = still-read-opening form g k (P .read-whole g k)
+  untouched form g idle (next-part u) h = refl
+  untouched form g (reading k bytes p t) (next-part u) h =
+      two (Bool·beq t u) (give-part P form g k bytes p t) _ (two (leb (length bytes) (p + form .size)) _ _ refl refl) refl
+  untouched form g (writing k low high sent t) (next-part u) h = refl
+  untouched form g x (expedited k s bytes) h = still-conclude g k (write-opened k) (write-whole P g k s bytes) refl h
+  untouched form g x (open-write k n bytes) h = still-write-opening g k bytes (allowed P k (say n))
+  untouched form g idle (send-part u bytes last) h = refl
+  untouched form g (reading k held p t) (send-part u bytes last) h = refl
+  untouched form g (writing k low high sent t) (send-part u bytes last) h = still-part g k low high (sent ++ bytes) (not t) t u bytes last (Bool·beq t u) h
+  untouched form g x give-up h = refl
   untouched form g x unknown h = refl
 
   -- ---- an abort drops the line's transfer and changes nothing
 
   -- what an answer that is an abort leaves
   abbrev pub Dropped : P .Store → Served P → Type 0
-  Dropped g s = isAbort (s .answer) ≡ true → s ≡ over P g (s .answer)
+  Dropped g s = is-abort (s .answer) ≡ true → s ≡ over P g (s .answer)
 
   not-both : {A : Type 0} → _≡_ {A = Bool} false true → A
   not-both e = absurd (false≢true e)
@@ -85,44 +85,44 @@ module _ (P : Gauge) where
   left-over : (g : P .Store) (a : Answer (P .Key)) → Dropped g (over P g a)
   left-over g a e = refl
 
-  left-read-opening : (form : Form) (g : P .Store) (k : P .Key) (r : Read) → Dropped g (readOpening P form g k r)
-  unfolding readOpening isAbort
+  left-read-opening : (form : Form) (g : P .Store) (k : P .Key) (r : Read) → Dropped g (read-opening P form g k r)
+  unfolding read-opening is-abort
   left-read-opening form g k (value bytes) = two-left (form .closes (length bytes)) _ _ not-both not-both
   left-read-opening form g k (denied c) = left-over g (refused k c)
 
-  left-conclude : (g : P .Store) (k : P .Key) (y : Answer (P .Key)) (r : Outcome (P .Store)) → isAbort y ≡ false → Dropped g (conclude P g k y r)
+  left-conclude : (g : P .Store) (k : P .Key) (y : Answer (P .Key)) (r : Outcome (P .Store)) → is-abort y ≡ false → Dropped g (conclude P g k y r)
   unfolding conclude
   left-conclude g k y (stored g′) n = λ e. not-both (sym n ∙ e)
   left-conclude g k y (restarted g′) n = λ e. not-both (sym n ∙ e)
   left-conclude g k y (declined c) n = left-over g (refused k c)
 
-  left-part : (g : P .Store) (k : P .Key) (low high : ℕ) (all : List ℕ) (t last : Bool) (y : Answer (P .Key)) → isAbort y ≡ false → Dropped g (takePart P g k low high all t last y)
-  unfolding takePart
+  left-part : (g : P .Store) (k : P .Key) (low high : ℕ) (all : List ℕ) (t last : Bool) (y : Answer (P .Key)) → is-abort y ≡ false → Dropped g (take-part P g k low high all t last y)
+  unfolding take-part
   left-part g k low high all t true y n = left-conclude g k y (judged P g k low high all) n
-  left-part g k low high all t false y n = two-left (ltb high (length all)) _ _ (left-over g (refused k tooLong)) (λ e. not-both (sym n ∙ e))
+  left-part g k low high all t false y n = two-left (ltb high (length all)) _ _ (left-over g (refused k too-long)) (λ e. not-both (sym n ∙ e))
 
-  left-write-opening : (g : P .Store) (k : P .Key) (bytes : List ℕ) (z : Sizes) → Dropped g (writeOpening P g k bytes z)
-  unfolding writeOpening isAbort
-  left-write-opening g k bytes (sizes low high) = left-part g k low high bytes false false (writeOpened k) refl
+  left-write-opening : (g : P .Store) (k : P .Key) (bytes : List ℕ) (z : Sizes) → Dropped g (write-opening P g k bytes z)
+  unfolding write-opening is-abort
+  left-write-opening g k bytes (sizes low high) = left-part g k low high bytes false false (write-opened k) refl
   left-write-opening g k bytes (closed c) = left-over g (refused k c)
 
   -- THEOREM: every abort drops its transfer (R6.2) and leaves the store as it was (R7.10)
   pub aborts-drop : (form : Form) (g : P .Store) (x : Pending (P .Key)) (a : Request (P .Key)) → Dropped g (serve P form g x a)
-  unfolding serve isAbort
-  aborts-drop form g x (openRead k) = left-read-opening form g k (P .readWhole g k)
-  aborts-drop form g idle (nextPart u) = left-over g noTransfer
-  aborts-drop form g (reading k bytes p t) (nextPart u) =
-      two-left (Bool·beq t u) (givePart P form g k bytes p t) _ (two-left (leb (length bytes) (p + form .size)) _ _ not-both not-both) (left-over g (wrongToggle k))
-  aborts-drop form g (writing k low high sent t) (nextPart u) = left-over g noTransfer
-  aborts-drop form g x (expedited k s bytes) = left-conclude g k (writeOpened k) (writeWhole P g k s bytes) refl
-  aborts-drop form g x (openWrite k n bytes) = left-write-opening g k bytes (allowed P k (say n))
-  aborts-drop form g idle (sendPart u bytes last) = left-over g noTransfer
-  aborts-drop form g (reading k held p t) (sendPart u bytes last) = left-over g noTransfer
-  aborts-drop form g (writing k low high sent t) (sendPart u bytes last) =
-      two-left (Bool·beq t u) (takePart P g k low high (sent ++ bytes) (not t) last (partTaken t)) _ (left-part g k low high (sent ++ bytes) (not t) last (partTaken t) refl)
-      (left-over g (wrongToggle k))
-  aborts-drop form g x giveUp = left-over g silent
-  aborts-drop form g x unknown = left-over g noTransfer
+  unfolding serve is-abort
+  aborts-drop form g x (open-read k) = left-read-opening form g k (P .read-whole g k)
+  aborts-drop form g idle (next-part u) = left-over g no-transfer
+  aborts-drop form g (reading k bytes p t) (next-part u) =
+      two-left (Bool·beq t u) (give-part P form g k bytes p t) _ (two-left (leb (length bytes) (p + form .size)) _ _ not-both not-both) (left-over g (wrong-toggle k))
+  aborts-drop form g (writing k low high sent t) (next-part u) = left-over g no-transfer
+  aborts-drop form g x (expedited k s bytes) = left-conclude g k (write-opened k) (write-whole P g k s bytes) refl
+  aborts-drop form g x (open-write k n bytes) = left-write-opening g k bytes (allowed P k (say n))
+  aborts-drop form g idle (send-part u bytes last) = left-over g no-transfer
+  aborts-drop form g (reading k held p t) (send-part u bytes last) = left-over g no-transfer
+  aborts-drop form g (writing k low high sent t) (send-part u bytes last) =
+      two-left (Bool·beq t u) (take-part P g k low high (sent ++ bytes) (not t) last (part-taken t)) _ (left-part g k low high (sent ++ bytes) (not t) last (part-taken t) refl)
+      (left-over g (wrong-toggle k))
+  aborts-drop form g x give-up = left-over g silent
+  aborts-drop form g x unknown = left-over g no-transfer
 
   -- ---- the count of parts
 
@@ -163,15 +163,15 @@ module _ (P : Gauge) where
         Ih : Type 0
         Ih = (p′ : ℕ) (t′ : Bool) → W .at (b′ .lines) l ≡ reading k bytes p′ t′ → p′ < length bytes → Right P W F l es t′ → Ends P W F l bytes p′ b′ es
 
-        s-is : l ≡ m → a ≡ nextPart t → s ≡ givePart P (F l) (b .store) k bytes p t
+        s-is : l ≡ m → a ≡ next-part t → s ≡ give-part P (F l) (b .store) k bytes p t
         s-is e ea =
             ap (λ (y : W .Line). serve P (F y) (b .store) (W .at (b .lines) y) a) (sym e) ∙ ap₂ (λ (y : Pending (P .Key)) (z : Request (P .Key)). serve P (F l) (b .store) y z) x ea
-            ∙ ap (λ (d : Bool). cond d (givePart P (F l) (b .store) k bytes p t) (over P (b .store) (wrongToggle k))) (beq-refl t)
+            ∙ ap (λ (d : Bool). cond d (give-part P (F l) (b .store) k bytes p t) (over P (b .store) (wrong-toggle k))) (beq-refl t)
 
-        tell-is : (u : Answer (P .Key)) → a ≡ nextPart t → s .answer ≡ u → onward (gain a (s .answer)) (take p bytes) f ≡ onward (gain (nextPart t) u) (take p bytes) f
+        tell-is : (u : Answer (P .Key)) → a ≡ next-part t → s .answer ≡ u → onward (gain a (s .answer)) (take p bytes) f ≡ onward (gain (next-part t) u) (take p bytes) f
         tell-is u ea e = ap₂ (λ (y : Request (P .Key)) (z : Answer (P .Key)). onward (gain y z) (take p bytes) f) ea e
 
-        mine : (e : l ≡ m) → a ≡ nextPart t → Right P W F l es (not t) → Ih → Goal (yes e)
+        mine : (e : l ≡ m) → a ≡ next-part t → Right P W F l es (not t) → Ih → Goal (yes e)
         mine e ea r′ ih =
             (by-cond P (λ z. s ≡ z → Goal (yes e)) (leb (length bytes) (p + n)) _ _
             (λ ed es′.
@@ -187,7 +187,7 @@ module _ (P : Gauge) where
             ((λ z. on ∙ i .at-last (omega arith)), λ z. on ∙ i .not-before (omega arith))))
             (s-is e ea)
 
-        go : (d : Dec (l ≡ m)) → choose d ((a ≡ nextPart t) × Right P W F l es (not t)) (Right P W F l es t) → Ih → Goal d
+        go : (d : Dec (l ≡ m)) → choose d ((a ≡ next-part t) × Right P W F l es (not t)) (Right P W F l es t) → Ih → Goal d
         go (yes e) r′ ih = mine e (r′ .0) (r′ .1) ih
         go (no e) r′ ih =
             let i : Ends P W F l bytes p b′ es = ih p t (spared (b .lines) m (s .after) e (c .0) ∙ x) h r′ in

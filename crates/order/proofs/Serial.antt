@@ -9,11 +9,11 @@ use mathlib.Core.Option.{Option, none, some, Option·map}
 use lib.Dec.{T, ltb, leb, leb→le}
 use lib.ListN.{length, take}
 use lib.Seq.{take-add, take-all}
-use Rattle.order.specs.Talk.{Said, Request, openRead, nextPart, expedited, openWrite, sendPart, giveUp, unknown, Answer, writeOpened, partTaken, wrongToggle, Read, value, denied, Sizes, sizes, closed, Outcome, stored, restarted, declined, Pending, idle, reading, writing, gave, yes! }
-use Rattle.order.specs.Gauge.{Gauge, tooLong, counted, say, judged, judgedBy, allowed, writeWhole, Op, read, write, readResult, writeResult, written, result, after, results, endOf}
-use Rattle.order.specs.Serve.{Form, Wires, After, kept, wiped, left, Served, over, readOpening, givePart, readPart, conclude, takePart, writeOpening, writePart, serve, Board, Event, message, sample, leave, step, trace, run}
-use Rattle.order.specs.Observe.{Seen, nothing, sending, gain, ended, refusedBy, if-yes, noted, note, onward, Done, readDone, partDone, finished, placed, Seens, pick, remember, follow, observe, fresh}
-use Rattle.order.specs.Promise.{opsOf, gotOf, start, doneIn, Serial}
+use Rattle.order.specs.Talk.{Said, Request, open-read, next-part, expedited, open-write, send-part, give-up, unknown, Answer, write-opened, part-taken, wrong-toggle, Read, value, denied, Sizes, sizes, closed, Outcome, stored, restarted, declined, Pending, idle, reading, writing, gave, yes! }
+use Rattle.order.specs.Gauge.{Gauge, too-long, counted, say, judged, judged-by, allowed, write-whole, Op, read, write, read-result, write-result, written, result, after, results, end-of}
+use Rattle.order.specs.Serve.{Form, Wires, After, kept, wiped, left, Served, over, read-opening, give-part, read-part, conclude, take-part, write-opening, write-part, serve, Board, Event, message, sample, leave, step, trace, run}
+use Rattle.order.specs.Observe.{Seen, nothing, sending, gain, ended, ended-early, if-yes, noted, note, onward, Done, read-done, part-done, finished, placed, Seens, pick, remember, follow, observe, fresh}
+use Rattle.order.specs.Promise.{ops-of, got-of, start, done-in, Serial}
 
 -- ---- a read that goes on: what lies ahead of it, by what its line holds
 
@@ -34,10 +34,10 @@ module _ (P : Gauge) where
   by-cond R false s s′ h h′ = h′ refl
 
   abbrev Onward : Pending (P .Key) → Bool → (List ℕ → Option (List ℕ)) → Served P → Type 0
-  Onward x u f s = Ahead (left (s .after)) f → Ahead x (λ acc. onward (gain (nextPart u) (s .answer)) acc f)
+  Onward x u f s = Ahead (left (s .after)) f → Ahead x (λ acc. onward (gain (next-part u) (s .answer)) acc f)
 
-  own-next : (form : Form) (g : P .Store) (x : Pending (P .Key)) (u : Bool) (f : List ℕ → Option (List ℕ)) → Onward x u f (readPart P form g x u)
-  unfolding onward gain readPart
+  own-next : (form : Form) (g : P .Store) (x : Pending (P .Key)) (u : Bool) (f : List ℕ → Option (List ℕ)) → Onward x u f (read-part P form g x u)
+  unfolding onward gain read-part
   own-next form g idle u f = λ q acc. refl
   own-next form g (reading k bytes p t) u f =
       by-cond (Onward (reading k bytes p t) u f) (Bool·beq t u) _ _
@@ -50,12 +50,12 @@ module _ (P : Gauge) where
   own-ahead : (form : Form) (g : P .Store) (x : Pending (P .Key)) (a : Request (P .Key)) (f : List ℕ → Option (List ℕ))
       → Ahead (left ((serve P form g x a) .after)) f → Ahead x (λ acc. onward (gain a ((serve P form g x a) .answer)) acc f)
   unfolding serve onward gain
-  own-ahead form g x (openRead k) f q = dead x (λ acc. none) (λ acc. refl)
-  own-ahead form g x (nextPart u) f q = own-next form g x u f q
+  own-ahead form g x (open-read k) f q = dead x (λ acc. none) (λ acc. refl)
+  own-ahead form g x (next-part u) f q = own-next form g x u f q
   own-ahead form g x (expedited k s bytes) f q = dead x (λ acc. none) (λ acc. refl)
-  own-ahead form g x (openWrite k n bytes) f q = dead x (λ acc. none) (λ acc. refl)
-  own-ahead form g x (sendPart u bytes last) f q = dead x (λ acc. none) (λ acc. refl)
-  own-ahead form g x giveUp f q = dead x (λ acc. none) (λ acc. refl)
+  own-ahead form g x (open-write k n bytes) f q = dead x (λ acc. none) (λ acc. refl)
+  own-ahead form g x (send-part u bytes last) f q = dead x (λ acc. none) (λ acc. refl)
+  own-ahead form g x give-up f q = dead x (λ acc. none) (λ acc. refl)
   own-ahead form g x unknown f q = dead x (λ acc. none) (λ acc. refl)
 
   -- ---- a write that goes on: what the client has sent is what the board has of it
@@ -80,98 +80,98 @@ module _ (P : Gauge) where
   counted-say (some n) high bytes = refl
 
   -- what the reads ahead of an opening bring
-  looked : (g : P .Store) (k : P .Key) (bytes : List ℕ) → P .readWhole g k ≡ value bytes
+  looked : (g : P .Store) (k : P .Key) (bytes : List ℕ) → P .read-whole g k ≡ value bytes
       → (v : Option (List ℕ)) → (v ≡ none) ⊎ (v ≡ some bytes) → Next g (Option·map (λ w. (read k, gave w)) v) g
   unfolding result after
   looked g k bytes e none h = refl
   looked g k bytes e (some w) (inl h) = (cc, refl)
   looked g k bytes e (some w) (inr h) = (cc, refl)
 
-  fine-read-opening : (form : Form) (g : P .Store) (k : P .Key) (f : List ℕ → Option (List ℕ)) (r : Read) → P .readWhole g k ≡ r
-      → Ahead (left ((readOpening P form g k r) .after)) f → Fine g nothing (readDone P k ((readOpening P form g k r) .answer) f) (readOpening P form g k r)
-  unfolding result after readDone readOpening
-  fine-read-opening form g k f (denied c) e = λ q. ((ap (readResult P) e, refl), tt)
+  fine-read-opening : (form : Form) (g : P .Store) (k : P .Key) (f : List ℕ → Option (List ℕ)) (r : Read) → P .read-whole g k ≡ r
+      → Ahead (left ((read-opening P form g k r) .after)) f → Fine g nothing (read-done P k ((read-opening P form g k r) .answer) f) (read-opening P form g k r)
+  unfolding result after read-done read-opening
+  fine-read-opening form g k f (denied c) e = λ q. ((ap (read-result P) e, refl), tt)
   fine-read-opening form g k f (value bytes) e =
-      by-cond (λ s. Ahead (left (s .after)) f → Fine g nothing (readDone P k (s .answer) f) s) (form .closes (length bytes)) _ _
-      (λ d q. ((ap (readResult P) e ∙ ap gave (sym (take-all (form .carried (length bytes)) bytes (form .closes-all (length bytes) (subst T (sym d) tt)))), refl), tt))
+      by-cond (λ s. Ahead (left (s .after)) f → Fine g nothing (read-done P k (s .answer) f) s) (form .closes (length bytes)) _ _
+      (λ d q. ((ap (read-result P) e ∙ ap gave (sym (take-all (form .carried (length bytes)) bytes (form .closes-all (length bytes) (subst T (sym d) tt)))), refl), tt))
       (λ d q. (looked g k bytes e (f (take (form .carried (length bytes)) bytes)) q, tt))
 
   -- an answer that says yes to a message of a write
   record IsYes (y : Answer (P .Key)) : Type 0 where
     ends : ended y ≡ some yes!
-    goes : refusedBy y ≡ none
+    goes : ended-early y ≡ none
     seen : (a b : Seen (P .Key)) → if-yes y a b ≡ a
 
-  yes-opened : (k : P .Key) → IsYes (writeOpened k)
-  unfolding ended refusedBy if-yes
+  yes-opened : (k : P .Key) → IsYes (write-opened k)
+  unfolding ended ended-early if-yes
   yes-opened k = record { ends = refl; goes = refl; seen = λ a b. refl }
 
-  yes-taken : (t : Bool) → IsYes (partTaken t)
-  unfolding ended refusedBy if-yes
+  yes-taken : (t : Bool) → IsYes (part-taken t)
+  unfolding ended ended-early if-yes
   yes-taken t = record { ends = refl; goes = refl; seen = λ a b. refl }
 
   -- a write ends here: r is what the plain gauge makes of it
   fine-conclude : (g : P .Store) (k : P .Key) (s : Said) (bytes : List ℕ) (y : Answer (P .Key)) → IsYes y
-      → (r : Outcome (P .Store)) → writeWhole P g k s bytes ≡ r
+      → (r : Outcome (P .Store)) → write-whole P g k s bytes ≡ r
       → (o : Seen (P .Key)) → Fine g o (Option·map (λ v. (write k s bytes, v)) (ended ((conclude P g k y r) .answer))) (conclude P g k y r)
   unfolding result after ended conclude
-  fine-conclude g k s bytes y ey (stored g′) e o = rw (ey .ends) ((ap (writeResult P) e, ap (written P g) e), tt)
-  fine-conclude g k s bytes y ey (restarted g′) e o = rw (ey .ends) ((ap (writeResult P) e, ap (written P g) e), tt)
-  fine-conclude g k s bytes y ey (declined c) e o = ((ap (writeResult P) e, ap (written P g) e), tt)
+  fine-conclude g k s bytes y ey (stored g′) e o = rw (ey .ends) ((ap (write-result P) e, ap (written P g) e), tt)
+  fine-conclude g k s bytes y ey (restarted g′) e o = rw (ey .ends) ((ap (write-result P) e, ap (written P g) e), tt)
+  fine-conclude g k s bytes y ey (declined c) e o = ((ap (write-result P) e, ap (written P g) e), tt)
 
   -- a message of a write in parts, `all` being what was sent so far
   module _ (g : P .Store) (k : P .Key) (n : Option ℕ) (low high : ℕ) (known : allowed P k (say n) ≡ sizes low high) (all : List ℕ) (y : Answer (P .Key)) (ey : IsYes y) where
-    whole : writeWhole P g k (say n) all ≡ judged P g k low high all
-    unfolding writeWhole
-    whole = ap (judgedBy P g k (say n) all) known ∙ ap (judged P g k low high) (counted-say n high all)
+    whole : write-whole P g k (say n) all ≡ judged P g k low high all
+    unfolding write-whole
+    whole = ap (judged-by P g k (say n) all) known ∙ ap (judged P g k low high) (counted-say n high all)
 
-    overrun : ltb high (length all) ≡ true → writeWhole P g k (say n) all ≡ declined tooLong
+    overrun : ltb high (length all) ≡ true → write-whole P g k (say n) all ≡ declined too-long
     unfolding judged
     overrun e = whole ∙ rw e
 
     fine-more : (t : Bool)
-        → Fine g (if-yes ((takePart P g k low high all t false y) .answer) (sending k n all) nothing)
-        (Option·map (λ v. (write k (say n) all, v)) (refusedBy ((takePart P g k low high all t false y) .answer))) (takePart P g k low high all t false y)
-    unfolding result after refusedBy takePart
+        → Fine g (if-yes ((take-part P g k low high all t false y) .answer) (sending k n all) nothing)
+        (Option·map (λ v. (write k (say n) all, v)) (ended-early ((take-part P g k low high all t false y) .answer))) (take-part P g k low high all t false y)
+    unfolding result after ended-early take-part
     fine-more t =
-        by-cond (λ s. Fine g (if-yes (s .answer) (sending k n all) nothing) (Option·map (λ v. (write k (say n) all, v)) (refusedBy (s .answer))) s) (ltb high (length all)) _ _
-        (λ e. ((ap (writeResult P) (overrun e), ap (written P g) (overrun e)), tt))
+        by-cond (λ s. Fine g (if-yes (s .answer) (sending k n all) nothing) (Option·map (λ v. (write k (say n) all, v)) (ended-early (s .answer))) s) (ltb high (length all)) _ _
+        (λ e. ((ap (write-result P) (overrun e), ap (written P g) (overrun e)), tt))
         (λ e. rw (ey .goes) (refl, (n, ey .seen (sending k n all) nothing, known)))
 
-    fine-last : (o : Seen (P .Key)) (t : Bool) → Fine g o (Option·map (λ v. (write k (say n) all, v)) (ended ((takePart P g k low high all t true y) .answer))) (takePart P g k low high all t true y)
-    unfolding takePart conclude
+    fine-last : (o : Seen (P .Key)) (t : Bool) → Fine g o (Option·map (λ v. (write k (say n) all, v)) (ended ((take-part P g k low high all t true y) .answer))) (take-part P g k low high all t true y)
+    unfolding take-part conclude
     fine-last o t = fine-conclude g k (say n) all y ey (judged P g k low high all) whole o
 
   fine-write-opening : (g : P .Store) (k : P .Key) (n : Option ℕ) (bytes : List ℕ) (z : Sizes) → allowed P k (say n) ≡ z
-      → Fine g (if-yes ((writeOpening P g k bytes z) .answer) (sending k n bytes) nothing)
-      (Option·map (λ v. (write k (say n) bytes, v)) (refusedBy ((writeOpening P g k bytes z) .answer))) (writeOpening P g k bytes z)
-  unfolding result after writeWhole writeOpening takePart refusedBy
-  fine-write-opening g k n bytes (sizes low high) e = fine-more g k n low high e bytes (writeOpened k) (yes-opened k) false
+      → Fine g (if-yes ((write-opening P g k bytes z) .answer) (sending k n bytes) nothing)
+      (Option·map (λ v. (write k (say n) bytes, v)) (ended-early ((write-opening P g k bytes z) .answer))) (write-opening P g k bytes z)
+  unfolding result after write-whole write-opening take-part ended-early
+  fine-write-opening g k n bytes (sizes low high) e = fine-more g k n low high e bytes (write-opened k) (yes-opened k) false
   fine-write-opening g k n bytes (closed c) e =
-      let w : writeWhole P g k (say n) bytes ≡ declined c = ap (judgedBy P g k (say n) bytes) e in
-      ((ap (writeResult P) w, ap (written P g) w), tt)
+      let w : write-whole P g k (say n) bytes ≡ declined c = ap (judged-by P g k (say n) bytes) e in
+      ((ap (write-result P) w, ap (written P g) w), tt)
 
   fine-part : (g : P .Store) (x : Pending (P .Key)) (o : Seen (P .Key)) (u : Bool) (bytes : List ℕ) (last : Bool) → Tracks x o
-      → Fine g (if-yes ((writePart P g x u bytes last) .answer) (noted o bytes last) nothing) (partDone P o bytes last ((writePart P g x u bytes last) .answer)) (writePart P g x u bytes last)
-  unfolding partDone writePart noted
+      → Fine g (if-yes ((write-part P g x u bytes last) .answer) (noted o bytes last) nothing) (part-done P o bytes last ((write-part P g x u bytes last) .answer)) (write-part P g x u bytes last)
+  unfolding part-done write-part noted
   fine-part g idle nothing u bytes last h = (refl, tt)
   fine-part g idle (sending k n sent) u bytes true h = (refl, tt)
   fine-part g idle (sending k n sent) u bytes false h = (refl, tt)
   fine-part g (reading k held p t) nothing u bytes last h = (refl, tt)
   fine-part g (reading k held p t) (sending k′ n sent) u bytes true h = (refl, tt)
   fine-part g (reading k held p t) (sending k′ n sent) u bytes false h = (refl, tt)
-  fine-part g (writing k low high sent t) o u bytes last h = rw (h .1) (by-cond (Parted (h .0) last) (Bool·beq t u) (takePart P g k low high (sent ++ bytes) (not t) last (partTaken t)) _ (λ _. go last) (λ _. no-part last))
+  fine-part g (writing k low high sent t) o u bytes last h = rw (h .1) (by-cond (Parted (h .0) last) (Bool·beq t u) (take-part P g k low high (sent ++ bytes) (not t) last (part-taken t)) _ (λ _. go last) (λ _. no-part last))
     where
       Parted : Option ℕ → Bool → Served P → Type 0
-      Parted n l s = Fine g (if-yes (s .answer) (noted (sending k n sent) bytes l) nothing) (partDone P (sending k n sent) bytes l (s .answer)) s
+      Parted n l s = Fine g (if-yes (s .answer) (noted (sending k n sent) bytes l) nothing) (part-done P (sending k n sent) bytes l (s .answer)) s
 
-      go : (l : Bool) → Parted (h .0) l (takePart P g k low high (sent ++ bytes) (not t) l (partTaken t))
+      go : (l : Bool) → Parted (h .0) l (take-part P g k low high (sent ++ bytes) (not t) l (part-taken t))
       go true =
-          fine-last g k (h .0) low high (h .2) (sent ++ bytes) (partTaken t) (yes-taken t)
-          (if-yes ((takePart P g k low high (sent ++ bytes) (not t) true (partTaken t)) .answer) nothing nothing) (not t)
-      go false = fine-more g k (h .0) low high (h .2) (sent ++ bytes) (partTaken t) (yes-taken t) (not t)
+          fine-last g k (h .0) low high (h .2) (sent ++ bytes) (part-taken t) (yes-taken t)
+          (if-yes ((take-part P g k low high (sent ++ bytes) (not t) true (part-taken t)) .answer) nothing nothing) (not t)
+      go false = fine-more g k (h .0) low high (h .2) (sent ++ bytes) (part-taken t) (yes-taken t) (not t)
 
-      no-part : (l : Bool) → Parted (h .0) l (over P g (wrongToggle k))
+      no-part : (l : Bool) → Parted (h .0) l (over P g (wrong-toggle k))
       no-part true = (refl, tt)
       no-part false = (refl, tt)
 
@@ -180,16 +180,16 @@ module _ (P : Gauge) where
       → Ahead (left ((serve P form g x a) .after)) f
       → Fine g (note o a ((serve P form g x a) .answer)) (finished P o a ((serve P form g x a) .answer) f) (serve P form g x a)
   unfolding serve note finished
-  fine form g x o (openRead k) f h q = fine-read-opening form g k f (P .readWhole g k) refl q
-  fine form g idle o (nextPart u) f h q = (refl, tt)
-  fine form g (reading k bytes p t) o (nextPart u) f h q =
-      by-cond (Fine g nothing none) (Bool·beq t u) (givePart P form g k bytes p t) _ (λ _. by-cond (Fine g nothing none) (leb (length bytes) (p + form .size)) _ _ (λ _. (refl, tt)) (λ _. (refl, tt)))
+  fine form g x o (open-read k) f h q = fine-read-opening form g k f (P .read-whole g k) refl q
+  fine form g idle o (next-part u) f h q = (refl, tt)
+  fine form g (reading k bytes p t) o (next-part u) f h q =
+      by-cond (Fine g nothing none) (Bool·beq t u) (give-part P form g k bytes p t) _ (λ _. by-cond (Fine g nothing none) (leb (length bytes) (p + form .size)) _ _ (λ _. (refl, tt)) (λ _. (refl, tt)))
       (λ _. (refl, tt))
-  fine form g (writing k low high sent t) o (nextPart u) f h q = (refl, tt)
-  fine form g x o (expedited k s bytes) f h q = fine-conclude g k s bytes (writeOpened k) (yes-opened k) (writeWhole P g k s bytes) refl nothing
-  fine form g x o (openWrite k n bytes) f h q = fine-write-opening g k n bytes (allowed P k (say n)) refl
-  fine form g x o (sendPart u bytes last) f h q = fine-part g x o u bytes last h
-  fine form g x o giveUp f h q = (refl, tt)
+  fine form g (writing k low high sent t) o (next-part u) f h q = (refl, tt)
+  fine form g x o (expedited k s bytes) f h q = fine-conclude g k s bytes (write-opened k) (yes-opened k) (write-whole P g k s bytes) refl nothing
+  fine form g x o (open-write k n bytes) f h q = fine-write-opening g k n bytes (allowed P k (say n)) refl
+  fine form g x o (send-part u bytes last) f h q = fine-part g x o u bytes last h
+  fine form g x o give-up f h q = (refl, tt)
   fine form g x o unknown f h q = (refl, tt)
 
   -- ---- all lines
@@ -297,13 +297,13 @@ module _ (P : Gauge) where
 
     -- ---- the promise
 
-    agrees-results : (ds : List (Done P)) (g g′ : P .Store) → Agrees g ds g′ → results P g (opsOf P ds) ≡ gotOf P ds
+    agrees-results : (ds : List (Done P)) (g g′ : P .Store) → Agrees g ds g′ → results P g (ops-of P ds) ≡ got-of P ds
     unfolding Agrees results
     agrees-results [] g g′ h = refl
     agrees-results (d ∷ ds) g g′ h = ap₂ _∷_ (h .0) (agrees-results ds (after P g (d .0)) g′ (h .1))
 
-    agrees-end : (ds : List (Done P)) (g g′ : P .Store) → Agrees g ds g′ → endOf P g (opsOf P ds) ≡ g′
-    unfolding Agrees endOf
+    agrees-end : (ds : List (Done P)) (g g′ : P .Store) → Agrees g ds g′ → end-of P g (ops-of P ds) ≡ g′
+    unfolding Agrees end-of
     agrees-end [] g g′ h = h
     agrees-end (d ∷ ds) g g′ h = agrees-end ds (after P g (d .0)) g′ (h .1)
 
@@ -314,18 +314,18 @@ module _ (P : Gauge) where
     -- THEOREM: for every list of events, from power-up
     pub serial : (g : P .Store) (es : List (Event P W F)) → Serial P W F g es
     serial g es =
-        let h : Agrees g (doneIn P W F g es) ((run P W F (start P W F g) es) .store) = agrees es (start P W F g) (fresh P W F) (inv-start g) in
+        let h : Agrees g (done-in P W F g es) ((run P W F (start P W F g) es) .store) = agrees es (start P W F g) (fresh P W F) (inv-start g) in
         record {
-          same-results = agrees-results (doneIn P W F g es) g ((run P W F (start P W F g) es) .store) h;
-          same-end = agrees-end (doneIn P W F g es) g ((run P W F (start P W F g) es) .store) h;
+          same-results = agrees-results (done-in P W F g es) g ((run P W F (start P W F g) es) .store) h;
+          same-end = agrees-end (done-in P W F g es) g ((run P W F (start P W F g) es) .store) h;
         }
 
     -- whatever every whole operation keeps, any mix of messages and samples keeps
-    kept-along : (I : P .Store → Type 0) → ((g : P .Store) (o : Op P) → I g → I (after P g o)) → (os : List (Op P)) (g : P .Store) → I g → I (endOf P g os)
-    unfolding endOf
+    kept-along : (I : P .Store → Type 0) → ((g : P .Store) (o : Op P) → I g → I (after P g o)) → (os : List (Op P)) (g : P .Store) → I g → I (end-of P g os)
+    unfolding end-of
     kept-along I h [] g i = i
     kept-along I h (o ∷ os) g i = kept-along I h os (after P g o) (h g o i)
 
     pub keeps : (I : P .Store → Type 0) → ((g : P .Store) (o : Op P) → I g → I (after P g o))
         → (g : P .Store) (es : List (Event P W F)) → I g → I ((run P W F (start P W F g) es) .store)
-    keeps I h g es i = subst I ((serial g es) .same-end) (kept-along I h (opsOf P (doneIn P W F g es)) g i)
+    keeps I h g es i = subst I ((serial g es) .same-end) (kept-along I h (ops-of P (done-in P W F g es)) g i)

@@ -3,10 +3,10 @@ use Prim.Native.Nat.{ℕ}
 use mathlib.Core.Path.{_≡_}
 use mathlib.Core.List.{List, [], _∷_, map}
 use Rattle.order.specs.Talk.{Request, Answer, silent, Pending, idle}
-use Rattle.order.specs.Gauge.{Gauge, results, endOf}
+use Rattle.order.specs.Gauge.{Gauge, results, end-of}
 use Rattle.order.specs.Serve.{Form, Wires, serve, Board, Event, message, sample, step}
 use Rattle.order.specs.Observe.{Done, observe, fresh}
-use Rattle.order.specs.Promise.{opsOf, gotOf, start}
+use Rattle.order.specs.Promise.{ops-of, got-of, start}
 
 -- how a line's requests and answers stand in bytes: what a message asks, an answer's bytes, and what a client reads in them. The last
 -- two may look at the message
@@ -38,9 +38,9 @@ module _ (P : Gauge) (W : Wires (Pending (P .Key)) idle) (F : W .Line → Form) 
   talk b [] = []
   talk b (c ∷ cs) = (c, (call b c) .1) ∷ talk ((call b c) .0) cs
 
-  unfoldable pub afterAll : Board P W F → List Call → Board P W F
-  afterAll b [] = b
-  afterAll b (c ∷ cs) = afterAll ((call b c) .0) cs
+  unfoldable pub after-all : Board P W F → List Call → Board P W F
+  after-all b [] = b
+  after-all b (c ∷ cs) = after-all ((call b c) .0) cs
 
   abbrev pub understood : Call → List ℕ → Answer (P .Key)
   understood (heard l m) a = C l .tell m a
@@ -55,8 +55,8 @@ module _ (P : Gauge) (W : Wires (Pending (P .Key)) idle) (F : W .Line → Form) 
 
   -- THE ORDER, on bytes
   pub record SerialBytes (g : P .Store) (cs : List Call) : Type 0 where
-    pub same-results : results P g (opsOf P (client (talk (start P W F g) cs))) ≡ gotOf P (client (talk (start P W F g) cs))
-    pub same-end : endOf P g (opsOf P (client (talk (start P W F g) cs))) ≡ (afterAll (start P W F g) cs) .store
+    pub same-results : results P g (ops-of P (client (talk (start P W F g) cs))) ≡ got-of P (client (talk (start P W F g) cs))
+    pub same-end : end-of P g (ops-of P (client (talk (start P W F g) cs))) ≡ (after-all (start P W F g) cs) .store
 
   -- a client reads in each answer's bytes what the board meant: shown of a codec, once
   abbrev pub Clear : Type 0

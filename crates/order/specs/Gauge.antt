@@ -7,28 +7,28 @@ use lib.Dec.{ltb}
 use lib.ListN.{length, take}
 use Rattle.order.specs.Talk.{Said, announced, unsaid, own, Read, value, denied, Sizes, sizes, closed, Outcome, stored, restarted, declined, Result, gave, yes!, code, taken}
 
--- A gauge, entry by entry. `readWhole` judges index, subindex and access and gives the value. `rowOf` is what the table says of
+-- A gauge, entry by entry. `read-whole` judges index, subindex and access and gives the value. `write-sizes` is what the table says of
 -- writing the entry; it has no store among its arguments. `commit` is given bytes of an allowed length: lock, limits, then the write with its
 -- effects. `sampled` is the store after a sample
 pub record Gauge : Type 1 where
   pub Store : Type 0
   pub Key : Type 0
   pub Sample : Type 0
-  pub readWhole : Store → Key → Read
-  pub rowOf : Key → Sizes
+  pub read-whole : Store → Key → Read
+  pub write-sizes : Key → Sizes
   pub commit : Store → Key → List ℕ → Outcome Store
   pub sampled : Store → Sample → Store
 
 -- R7.5
-abbrev pub tooLong : ℕ
-tooLong = 0x06070012
+abbrev pub too-long : ℕ
+too-long = 0x06070012
 
-abbrev pub tooShort : ℕ
-tooShort = 0x06070013
+abbrev pub too-short : ℕ
+too-short = 0x06070013
 
 -- the length announced or meant, held against the table's smallest and largest (R7.8)
 unfoldable pub narrowed : ℕ → ℕ → Said → Sizes
-narrowed low high (announced n) = cond (ltb high n) (closed tooLong) (cond (ltb n low) (closed tooShort) (sizes n n))
+narrowed low high (announced n) = cond (ltb high n) (closed too-long) (cond (ltb n low) (closed too-short) (sizes n n))
 narrowed low high unsaid = sizes low high
 narrowed low high own = sizes high high
 
@@ -51,21 +51,21 @@ say (some n) = announced n
 module _ (P : Gauge) where
   -- lengths first, then lock and limits (R7.5 to R7.7)
   unfoldable pub judged : P .Store → P .Key → ℕ → ℕ → List ℕ → Outcome (P .Store)
-  judged g k low high bytes = cond (ltb high (length bytes)) (declined tooLong) (cond (ltb (length bytes) low) (declined tooShort) (P .commit g k bytes))
+  judged g k low high bytes = cond (ltb high (length bytes)) (declined too-long) (cond (ltb (length bytes) low) (declined too-short) (P .commit g k bytes))
 
-  unfoldable pub judgedBy : P .Store → P .Key → Said → List ℕ → Sizes → Outcome (P .Store)
+  unfoldable pub judged-by : P .Store → P .Key → Said → List ℕ → Sizes → Outcome (P .Store)
   unfolding judged counted
-  judgedBy g k s bytes (sizes low high) = judged g k low high (counted s high bytes)
-  judgedBy g k s bytes (closed c) = declined c
+  judged-by g k s bytes (sizes low high) = judged g k low high (counted s high bytes)
+  judged-by g k s bytes (closed c) = declined c
 
   -- all that is judged at opening
   abbrev pub allowed : P .Key → Said → Sizes
-  allowed k s = narrow (P .rowOf k) s
+  allowed k s = narrow (P .write-sizes k) s
 
   -- A WHOLE WRITE (R15.6), in the order of the checks (R7.1)
-  unfoldable pub writeWhole : P .Store → P .Key → Said → List ℕ → Outcome (P .Store)
-  unfolding judgedBy
-  writeWhole g k s bytes = judgedBy g k s bytes (allowed k s)
+  unfoldable pub write-whole : P .Store → P .Key → Said → List ℕ → Outcome (P .Store)
+  unfolding judged-by
+  write-whole g k s bytes = judged-by g k s bytes (allowed k s)
 
   -- a whole operation
   pub data Op : Type 0 where
@@ -73,14 +73,14 @@ module _ (P : Gauge) where
     write : P .Key → Said → List ℕ → Op
     feed : P .Sample → Op
 
-  unfoldable pub readResult : Read → Result
-  readResult (value bytes) = gave bytes
-  readResult (denied c) = code c
+  unfoldable pub read-result : Read → Result
+  read-result (value bytes) = gave bytes
+  read-result (denied c) = code c
 
-  unfoldable pub writeResult : Outcome (P .Store) → Result
-  writeResult (stored g) = yes!
-  writeResult (restarted g) = yes!
-  writeResult (declined c) = code c
+  unfoldable pub write-result : Outcome (P .Store) → Result
+  write-result (stored g) = yes!
+  write-result (restarted g) = yes!
+  write-result (declined c) = code c
 
   -- R7.10
   unfoldable pub written : P .Store → Outcome (P .Store) → P .Store
@@ -90,16 +90,16 @@ module _ (P : Gauge) where
 
   -- what an operation gives back
   unfoldable pub result : P .Store → Op → Result
-  unfolding readResult writeResult writeWhole
-  result g (read k) = readResult (P .readWhole g k)
-  result g (write k s bytes) = writeResult (writeWhole g k s bytes)
+  unfolding read-result write-result write-whole
+  result g (read k) = read-result (P .read-whole g k)
+  result g (write k s bytes) = write-result (write-whole g k s bytes)
   result g (feed s) = taken
 
   -- the store that it leaves
   unfoldable pub after : P .Store → Op → P .Store
-  unfolding written writeWhole
+  unfolding written write-whole
   after g (read k) = g
-  after g (write k s bytes) = written g (writeWhole g k s bytes)
+  after g (write k s bytes) = written g (write-whole g k s bytes)
   after g (feed s) = P .sampled g s
 
   -- one whole operation after the other
@@ -107,6 +107,6 @@ module _ (P : Gauge) where
   results g [] = []
   results g (o ∷ os) = result g o ∷ results (after g o) os
 
-  unfoldable pub endOf : P .Store → List Op → P .Store
-  endOf g [] = g
-  endOf g (o ∷ os) = endOf (after g o) os
+  unfoldable pub end-of : P .Store → List Op → P .Store
+  end-of g [] = g
+  end-of g (o ∷ os) = end-of (after g o) os

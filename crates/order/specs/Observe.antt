@@ -5,7 +5,7 @@ use mathlib.Core.Path.{_≡_}
 use mathlib.Core.Bool.{Bool, true, false, cond}
 use mathlib.Core.List.{List, [], _∷_, _++_}
 use mathlib.Core.Option.{Option, none, some, Option·map}
-use Rattle.order.specs.Talk.{Request, openRead, nextPart, expedited, openWrite, sendPart, giveUp, unknown, Answer, opened, partGiven, writeOpened, partTaken, refused, wrongToggle, noTransfer, silent, Pending, idle, Result, gave, yes!, code, taken}
+use Rattle.order.specs.Talk.{Request, open-read, next-part, expedited, open-write, send-part, give-up, unknown, Answer, opened, part-given, write-opened, part-taken, refused, wrong-toggle, no-transfer, silent, Pending, idle, Result, gave, yes!, code, taken}
 use Rattle.order.specs.Gauge.{Gauge, say, Op, read, write, feed}
 use Rattle.order.specs.Serve.{Wires, Form, Event, message, sample}
 
@@ -20,58 +20,58 @@ pub data Gain : Type 0 where
   gained : List ℕ → Bool → Gain
 
 module _ {K : Type 0} where
-  unfoldable pub gainedBy : Answer K → Gain
-  gainedBy (opened k n bytes all) = broken
-  gainedBy (partGiven t bytes last) = gained bytes last
-  gainedBy (writeOpened k) = broken
-  gainedBy (partTaken t) = broken
-  gainedBy (refused k c) = broken
-  gainedBy (wrongToggle k) = broken
-  gainedBy noTransfer = broken
-  gainedBy silent = broken
+  unfoldable pub gained-by : Answer K → Gain
+  gained-by (opened k n bytes all) = broken
+  gained-by (part-given t bytes last) = gained bytes last
+  gained-by (write-opened k) = broken
+  gained-by (part-taken t) = broken
+  gained-by (refused k c) = broken
+  gained-by (wrong-toggle k) = broken
+  gained-by no-transfer = broken
+  gained-by silent = broken
 
   -- only a request for the next part goes on with a read
   unfoldable pub gain : Request K → Answer K → Gain
-  unfolding gainedBy
-  gain (openRead k) t = broken
-  gain (nextPart u) t = gainedBy t
+  unfolding gained-by
+  gain (open-read k) t = broken
+  gain (next-part u) t = gained-by t
   gain (expedited k s bytes) t = broken
-  gain (openWrite k n bytes) t = broken
-  gain (sendPart u bytes last) t = broken
-  gain giveUp t = broken
+  gain (open-write k n bytes) t = broken
+  gain (send-part u bytes last) t = broken
+  gain give-up t = broken
   gain unknown t = broken
 
   -- what ends a write at its last message: yes, or a code from 06020000 on
   unfoldable pub ended : Answer K → Option Result
   ended (opened k n bytes all) = none
-  ended (partGiven t bytes last) = none
-  ended (writeOpened k) = some yes!
-  ended (partTaken t) = some yes!
+  ended (part-given t bytes last) = none
+  ended (write-opened k) = some yes!
+  ended (part-taken t) = some yes!
   ended (refused k c) = some (code c)
-  ended (wrongToggle k) = none
-  ended noTransfer = none
+  ended (wrong-toggle k) = none
+  ended no-transfer = none
   ended silent = none
 
   -- what ends a write at an earlier message: a code from 06020000 on (R15.3)
-  unfoldable pub refusedBy : Answer K → Option Result
-  refusedBy (opened k n bytes all) = none
-  refusedBy (partGiven t bytes last) = none
-  refusedBy (writeOpened k) = none
-  refusedBy (partTaken t) = none
-  refusedBy (refused k c) = some (code c)
-  refusedBy (wrongToggle k) = none
-  refusedBy noTransfer = none
-  refusedBy silent = none
+  unfoldable pub ended-early : Answer K → Option Result
+  ended-early (opened k n bytes all) = none
+  ended-early (part-given t bytes last) = none
+  ended-early (write-opened k) = none
+  ended-early (part-taken t) = none
+  ended-early (refused k c) = some (code c)
+  ended-early (wrong-toggle k) = none
+  ended-early no-transfer = none
+  ended-early silent = none
 
   -- y if the answer says yes to a message of a write, else z
   unfoldable pub if-yes : {A : Type 0} → Answer K → A → A → A
   if-yes (opened k n bytes all) y z = z
-  if-yes (partGiven t bytes last) y z = z
-  if-yes (writeOpened k) y z = y
-  if-yes (partTaken t) y z = y
+  if-yes (part-given t bytes last) y z = z
+  if-yes (write-opened k) y z = y
+  if-yes (part-taken t) y z = y
   if-yes (refused k c) y z = z
-  if-yes (wrongToggle k) y z = z
-  if-yes noTransfer y z = z
+  if-yes (wrong-toggle k) y z = z
+  if-yes no-transfer y z = z
   if-yes silent y z = z
 
   unfoldable pub noted : Seen K → List ℕ → Bool → Seen K
@@ -81,12 +81,12 @@ module _ {K : Type 0} where
   -- what the client remembers after a message of the line and its answer; a code before 06020000 only drops a transfer (R15.5)
   unfoldable pub note : Seen K → Request K → Answer K → Seen K
   unfolding if-yes noted
-  note o (openRead k) t = nothing
-  note o (nextPart u) t = nothing
+  note o (open-read k) t = nothing
+  note o (next-part u) t = nothing
   note o (expedited k s bytes) t = nothing
-  note o (openWrite k n bytes) t = if-yes t (sending k n bytes) nothing
-  note o (sendPart u bytes last) t = if-yes t (noted o bytes last) nothing
-  note o giveUp t = nothing
+  note o (open-write k n bytes) t = if-yes t (sending k n bytes) nothing
+  note o (send-part u bytes last) t = if-yes t (noted o bytes last) nothing
+  note o give-up t = nothing
   note o unknown t = nothing
 
 -- a read of which `got` is got so far: it is finished by the part that is marked as the last, whatever length the opening told
@@ -101,31 +101,31 @@ module _ (P : Gauge) where
   Done = Op P × Result
 
   -- the read that this answer opens; `ahead` finds the rest of its bytes in the parts that follow, given those in hand
-  unfoldable pub readDone : P .Key → Answer (P .Key) → (List ℕ → Option (List ℕ)) → Option Done
-  readDone k (opened k′ n bytes true) ahead = some (read k, gave bytes)
-  readDone k (opened k′ n bytes false) ahead = Option·map (λ v. (read k, gave v)) (ahead bytes)
-  readDone k (partGiven t bytes last) ahead = none
-  readDone k (writeOpened k′) ahead = none
-  readDone k (partTaken t) ahead = none
-  readDone k (refused k′ c) ahead = some (read k, code c)
-  readDone k (wrongToggle k′) ahead = none
-  readDone k noTransfer ahead = none
-  readDone k silent ahead = none
+  unfoldable pub read-done : P .Key → Answer (P .Key) → (List ℕ → Option (List ℕ)) → Option Done
+  read-done k (opened k′ n bytes true) ahead = some (read k, gave bytes)
+  read-done k (opened k′ n bytes false) ahead = Option·map (λ v. (read k, gave v)) (ahead bytes)
+  read-done k (part-given t bytes last) ahead = none
+  read-done k (write-opened k′) ahead = none
+  read-done k (part-taken t) ahead = none
+  read-done k (refused k′ c) ahead = some (read k, code c)
+  read-done k (wrong-toggle k′) ahead = none
+  read-done k no-transfer ahead = none
+  read-done k silent ahead = none
 
-  unfoldable pub partDone : Seen (P .Key) → List ℕ → Bool → Answer (P .Key) → Option Done
-  unfolding ended refusedBy
-  partDone nothing bytes last t = none
-  partDone (sending k n sent) bytes last t = Option·map (λ r. (write k (say n) (sent ++ bytes), r)) (cond last (ended t) (refusedBy t))
+  unfoldable pub part-done : Seen (P .Key) → List ℕ → Bool → Answer (P .Key) → Option Done
+  unfolding ended ended-early
+  part-done nothing bytes last t = none
+  part-done (sending k n sent) bytes last t = Option·map (λ r. (write k (say n) (sent ++ bytes), r)) (cond last (ended t) (ended-early t))
 
   -- the operation to be put at this message, if any (R15.2, R15.3), with what the plain gauge is given (R15.6)
   unfoldable pub finished : Seen (P .Key) → Request (P .Key) → Answer (P .Key) → (List ℕ → Option (List ℕ)) → Option Done
-  unfolding readDone partDone ended refusedBy
-  finished o (openRead k) t ahead = readDone k t ahead
-  finished o (nextPart u) t ahead = none
+  unfolding read-done part-done ended ended-early
+  finished o (open-read k) t ahead = read-done k t ahead
+  finished o (next-part u) t ahead = none
   finished o (expedited k s bytes) t ahead = Option·map (λ r. (write k s bytes, r)) (ended t)
-  finished o (openWrite k n bytes) t ahead = Option·map (λ r. (write k (say n) bytes, r)) (refusedBy t)
-  finished o (sendPart u bytes last) t ahead = partDone o bytes last t
-  finished o giveUp t ahead = none
+  finished o (open-write k n bytes) t ahead = Option·map (λ r. (write k (say n) bytes, r)) (ended-early t)
+  finished o (send-part u bytes last) t ahead = part-done o bytes last t
+  finished o give-up t ahead = none
   finished o unknown t ahead = none
 
   unfoldable pub placed : Option Done → List Done → List Done
@@ -147,27 +147,27 @@ module _ (P : Gauge) where
     remember os l o m = pick (W .same m l) o (os m)
 
     -- messages of other lines and samples are passed over
-    unfoldable pub followOne : W .Line → Event P W F → Answer (P .Key) → List ℕ → (List ℕ → Option (List ℕ)) → Option (List ℕ)
+    unfoldable pub follow-one : W .Line → Event P W F → Answer (P .Key) → List ℕ → (List ℕ → Option (List ℕ)) → Option (List ℕ)
     unfolding onward gain
-    followOne l (message m a) t got rest = pick (W .same l m) (onward (gain a t) got rest) (rest got)
-    followOne l (sample s) t got rest = rest got
+    follow-one l (message m a) t got rest = pick (W .same l m) (onward (gain a t) got rest) (rest got)
+    follow-one l (sample s) t got rest = rest got
 
     -- the rest of a read on line l, of which `got` is got: all its bytes, if it is finished
     unfoldable pub follow : W .Line → Pairs → List ℕ → Option (List ℕ)
-    unfolding followOne
+    unfolding follow-one
     follow l [] got = none
-    follow l (p ∷ ps) got = followOne l (p .0) (p .1) got (follow l ps)
+    follow l (p ∷ ps) got = follow-one l (p .0) (p .1) got (follow l ps)
 
-    unfoldable pub observeOne : Seens → Event P W F → Answer (P .Key) → (W .Line → List ℕ → Option (List ℕ)) → (Seens → List Done) → List Done
+    unfoldable pub observe-one : Seens → Event P W F → Answer (P .Key) → (W .Line → List ℕ → Option (List ℕ)) → (Seens → List Done) → List Done
     unfolding placed
-    observeOne os (message l a) t ahead rest = placed (finished (os l) a t (ahead l)) (rest (remember os l (note (os l) a t)))
-    observeOne os (sample s) t ahead rest = (feed s, taken) ∷ rest os
+    observe-one os (message l a) t ahead rest = placed (finished (os l) a t (ahead l)) (rest (remember os l (note (os l) a t)))
+    observe-one os (sample s) t ahead rest = (feed s, taken) ∷ rest os
 
     -- THE OBSERVER: reads at their opening, writes at the message that ends them, samples at their place (R15.2 to R15.4)
     unfoldable pub observe : Pairs → Seens → List Done
-    unfolding observeOne
+    unfolding observe-one
     observe [] os = []
-    observe (p ∷ ps) os = observeOne os (p .0) (p .1) (λ l. follow l ps) (observe ps)
+    observe (p ∷ ps) os = observe-one os (p .0) (p .1) (λ l. follow l ps) (observe ps)
 
     -- at the start the client has sent nothing
     abbrev pub fresh : Seens

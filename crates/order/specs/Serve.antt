@@ -6,8 +6,8 @@ use mathlib.Core.Bool.{Bool, true, false, cond, not, Bool·beq}
 use mathlib.Core.List.{List, [], _∷_, _++_}
 use lib.Dec.{T, ltb, leb}
 use lib.ListN.{length, take, drop}
-use Rattle.order.specs.Talk.{Request, openRead, nextPart, expedited, openWrite, sendPart, giveUp, unknown, Answer, opened, partGiven, writeOpened, partTaken, refused, wrongToggle, noTransfer, silent, Read, value, denied, Sizes, sizes, closed, Outcome, stored, restarted, declined, Pending, idle, reading, writing}
-use Rattle.order.specs.Gauge.{Gauge, tooLong, say, judged, allowed, writeWhole}
+use Rattle.order.specs.Talk.{Request, open-read, next-part, expedited, open-write, send-part, give-up, unknown, Answer, opened, part-given, write-opened, part-taken, refused, wrong-toggle, no-transfer, silent, Read, value, denied, Sizes, sizes, closed, Outcome, stored, restarted, declined, Pending, idle, reading, writing}
+use Rattle.order.specs.Gauge.{Gauge, too-long, say, judged, allowed, write-whole}
 
 -- how a line carries a value of some length: how many bytes the opening's answer carries, whether that closes the read, and the
 -- size of a part
@@ -54,26 +54,26 @@ module _ (P : Gauge) where
   onwards g x t = record { store = g; after = kept x; answer = t }
 
   -- open a read: all at once, or the value is held as it is now (R5.2, R5.3)
-  unfoldable pub readOpening : Form → P .Store → P .Key → Read → Served
-  readOpening F g k (denied c) = over g (refused k c)
-  readOpening F g k (value bytes) =
+  unfoldable pub read-opening : Form → P .Store → P .Key → Read → Served
+  read-opening F g k (denied c) = over g (refused k c)
+  read-opening F g k (value bytes) =
       cond (F .closes (length bytes))
       (over g (opened k (length bytes) (take (F .carried (length bytes)) bytes) true))
       (onwards g (reading k bytes (F .carried (length bytes)) false) (opened k (length bytes) (take (F .carried (length bytes)) bytes) false))
 
   -- the part from `place` on, marked if it is the last (R5.4)
-  unfoldable pub givePart : Form → P .Store → P .Key → List ℕ → ℕ → Bool → Served
-  givePart F g k bytes place t =
+  unfoldable pub give-part : Form → P .Store → P .Key → List ℕ → ℕ → Bool → Served
+  give-part F g k bytes place t =
       cond (leb (length bytes) (place + F .size))
-      (over g (partGiven t (take (F .size) (drop place bytes)) true))
-      (onwards g (reading k bytes (place + F .size) (not t)) (partGiven t (take (F .size) (drop place bytes)) false))
+      (over g (part-given t (take (F .size) (drop place bytes)) true))
+      (onwards g (reading k bytes (place + F .size) (not t)) (part-given t (take (F .size) (drop place bytes)) false))
 
   -- next part of a read: the transfer, then the toggle (R7.2)
-  unfoldable pub readPart : Form → P .Store → Pending (P .Key) → Bool → Served
-  unfolding givePart
-  readPart F g idle u = over g noTransfer
-  readPart F g (reading k bytes place t) u = cond (Bool·beq t u) (givePart F g k bytes place t) (over g (wrongToggle k))
-  readPart F g (writing k low high sent t) u = over g noTransfer
+  unfoldable pub read-part : Form → P .Store → Pending (P .Key) → Bool → Served
+  unfolding give-part
+  read-part F g idle u = over g no-transfer
+  read-part F g (reading k bytes place t) u = cond (Bool·beq t u) (give-part F g k bytes place t) (over g (wrong-toggle k))
+  read-part F g (writing k low high sent t) u = over g no-transfer
 
   -- a write's last message is answered with yes or a code
   unfoldable pub conclude : P .Store → P .Key → Answer (P .Key) → Outcome (P .Store) → Served
@@ -82,35 +82,35 @@ module _ (P : Gauge) where
   conclude g k answer (declined c) = over g (refused k c)
 
   -- a message of a write, `all` being the bytes sent with it and before it, `last` whether it is the last one (R7.8)
-  unfoldable pub takePart : P .Store → P .Key → ℕ → ℕ → List ℕ → Bool → Bool → Answer (P .Key) → Served
+  unfoldable pub take-part : P .Store → P .Key → ℕ → ℕ → List ℕ → Bool → Bool → Answer (P .Key) → Served
   unfolding conclude judged
-  takePart g k low high all t true answer = conclude g k answer (judged P g k low high all)
-  takePart g k low high all t false answer = cond (ltb high (length all)) (over g (refused k tooLong)) (onwards g (writing k low high all t) answer)
+  take-part g k low high all t true answer = conclude g k answer (judged P g k low high all)
+  take-part g k low high all t false answer = cond (ltb high (length all)) (over g (refused k too-long)) (onwards g (writing k low high all t) answer)
 
   -- open a write: what is judged there (R7.8)
-  unfoldable pub writeOpening : P .Store → P .Key → List ℕ → Sizes → Served
-  unfolding takePart
-  writeOpening g k bytes (closed c) = over g (refused k c)
-  writeOpening g k bytes (sizes low high) = takePart g k low high bytes false false (writeOpened k)
+  unfoldable pub write-opening : P .Store → P .Key → List ℕ → Sizes → Served
+  unfolding take-part
+  write-opening g k bytes (closed c) = over g (refused k c)
+  write-opening g k bytes (sizes low high) = take-part g k low high bytes false false (write-opened k)
 
   -- next part of a write: the transfer, then the toggle (R7.2)
-  unfoldable pub writePart : P .Store → Pending (P .Key) → Bool → List ℕ → Bool → Served
-  unfolding takePart
-  writePart g idle u bytes last = over g noTransfer
-  writePart g (reading k held place t) u bytes last = over g noTransfer
-  writePart g (writing k low high sent t) u bytes last =
-      cond (Bool·beq t u) (takePart g k low high (sent ++ bytes) (not t) last (partTaken t)) (over g (wrongToggle k))
+  unfoldable pub write-part : P .Store → Pending (P .Key) → Bool → List ℕ → Bool → Served
+  unfolding take-part
+  write-part g idle u bytes last = over g no-transfer
+  write-part g (reading k held place t) u bytes last = over g no-transfer
+  write-part g (writing k low high sent t) u bytes last =
+      cond (Bool·beq t u) (take-part g k low high (sent ++ bytes) (not t) last (part-taken t)) (over g (wrong-toggle k))
 
   -- ONE REQUEST on a line that holds x: an opening drops what it holds (R6.2), the client's abort too (R5.9)
   unfoldable pub serve : Form → P .Store → Pending (P .Key) → Request (P .Key) → Served
-  unfolding readOpening readPart conclude writeOpening writePart writeWhole
-  serve F g x (openRead k) = readOpening F g k (P .readWhole g k)
-  serve F g x (nextPart u) = readPart F g x u
-  serve F g x (expedited k s bytes) = conclude g k (writeOpened k) (writeWhole P g k s bytes)
-  serve F g x (openWrite k n bytes) = writeOpening g k bytes (allowed P k (say n))
-  serve F g x (sendPart u bytes last) = writePart g x u bytes last
-  serve F g x giveUp = over g silent
-  serve F g x unknown = over g noTransfer
+  unfolding read-opening read-part conclude write-opening write-part write-whole
+  serve F g x (open-read k) = read-opening F g k (P .read-whole g k)
+  serve F g x (next-part u) = read-part F g x u
+  serve F g x (expedited k s bytes) = conclude g k (write-opened k) (write-whole P g k s bytes)
+  serve F g x (open-write k n bytes) = write-opening g k bytes (allowed P k (say n))
+  serve F g x (send-part u bytes last) = write-part g x u bytes last
+  serve F g x give-up = over g silent
+  serve F g x unknown = over g no-transfer
 
   module _ (W : Wires (Pending (P .Key)) idle) (F : W .Line → Form) where
     -- THE BOARD

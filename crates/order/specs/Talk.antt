@@ -12,27 +12,27 @@ pub data Said : Type 0 where
   own : Said
 
 -- by the specifier: 2, 3, 1 with the value in it, 1 without, 0, 4, and 5 to 7 (R5.2 to R5.9).
--- Toggles are Bools; the last Bool of `sendPart` marks the last part; `openWrite` may carry bytes in a longer form of a line
+-- Toggles are Bools; the last Bool of `send-part` marks the last part; `open-write` may carry bytes in a longer form of a line
 pub data Request (K : Type 0) : Type 0 where
-  openRead : K → Request K
-  nextPart : Bool → Request K
+  open-read : K → Request K
+  next-part : Bool → Request K
   expedited : K → Said → List ℕ → Request K
-  openWrite : K → Option ℕ → List ℕ → Request K
-  sendPart : Bool → List ℕ → Bool → Request K
-  giveUp : Request K
+  open-write : K → Option ℕ → List ℕ → Request K
+  send-part : Bool → List ℕ → Bool → Request K
+  give-up : Request K
   unknown : Request K
 
--- `opened` answers the opening of a read: key, length, the bytes that it carries, whether these are all. `partGiven` is a part
--- of a read, `writeOpened` is 60 and `partTaken` 20 or 30. `refused` gives a code from 06020000 on. The two codes before it, which
--- only drop a transfer (R15.5), are `wrongToggle` (05030000) and `noTransfer` (05040001). `silent`: no answer
+-- `opened` answers the opening of a read: key, length, the bytes that it carries, whether these are all. `part-given` is a part
+-- of a read, `write-opened` is 60 and `part-taken` 20 or 30. `refused` gives a code from 06020000 on. The two codes before it, which
+-- only drop a transfer (R15.5), are `wrong-toggle` (05030000) and `no-transfer` (05040001). `silent`: no answer
 pub data Answer (K : Type 0) : Type 0 where
   opened : K → ℕ → List ℕ → Bool → Answer K
-  partGiven : Bool → List ℕ → Bool → Answer K
-  writeOpened : K → Answer K
-  partTaken : Bool → Answer K
+  part-given : Bool → List ℕ → Bool → Answer K
+  write-opened : K → Answer K
+  part-taken : Bool → Answer K
   refused : K → ℕ → Answer K
-  wrongToggle : K → Answer K
-  noTransfer : Answer K
+  wrong-toggle : K → Answer K
+  no-transfer : Answer K
   silent : Answer K
 
 -- a whole read: the value, or a code

@@ -9,14 +9,14 @@ use mathlib.Core.Option.{Option, none, some}
 use lib.Dec.{T, ltb, leb, leb→le}
 use lib.ListN.{length, take, drop, length-take}
 use lib.Seq.{take-length}
-use Rattle.order.specs.Talk.{Said, announced, unsaid, own, Request, openRead, nextPart, expedited, openWrite, sendPart, giveUp, unknown, Answer, opened, writeOpened, partTaken, wrongToggle, Read, value, denied, Sizes, sizes, closed, Outcome, stored, restarted, declined, Pending, idle, reading, writing}
-use Rattle.order.specs.Gauge.{Gauge, tooLong, tooShort, narrow, counted, say, judged, judgedBy, allowed, writeWhole, after}
-use Rattle.order.specs.Serve.{kept, left, Served, over, readOpening, givePart, conclude, takePart, writeOpening, serve, Event, message, step, trace}
+use Rattle.order.specs.Talk.{Said, announced, unsaid, own, Request, open-read, next-part, expedited, open-write, send-part, give-up, unknown, Answer, opened, write-opened, part-taken, wrong-toggle, Read, value, denied, Sizes, sizes, closed, Outcome, stored, restarted, declined, Pending, idle, reading, writing}
+use Rattle.order.specs.Gauge.{Gauge, too-long, too-short, narrow, counted, say, judged, judged-by, allowed, write-whole, after}
+use Rattle.order.specs.Serve.{kept, left, Served, over, read-opening, give-part, conclude, take-part, write-opening, serve, Event, message, step, trace}
 use Rattle.order.specs.Observe.{follow}
-use Rattle.order.specs.Promise.{endsWrite, Ends}
+use Rattle.order.specs.Promise.{ends-write, Ends}
 use Rattle.order.specs.Bytes.{heard, meant, call, Clear}
-use Rattle.sdo.specs.Eight.{askOf, tellOf, Code, Carried}
-use Rattle.sdo.specs.Lines.{Entries, gauge, Sound, short, eight, Line, atLine, twoLines, eightCodec, BoardCall, Demand3, TwoBoard, Parts, partsAsked, got}
+use Rattle.sdo.specs.Eight.{ask-of, tell-of, Code, Carried}
+use Rattle.sdo.specs.Lines.{Entries, gauge, Sound, short, eight, Line, at-line, two-lines, eight-codec, BoardCall, Demand3, TwoBoard, Parts, parts-asked-in, got}
 use Rattle.sdo.specs.Records.{view, speak}
 use Rattle.sdo.specs.declared.Key.{Key}
 use Rattle.sdo.specs.declared.Transfer.{Transfer}
@@ -25,10 +25,10 @@ use Rattle.order.proofs.OnBytes.{serial-bytes, decoded}
 use Rattle.order.proofs.Serial.{own-line}
 use Rattle.order.proofs.Count.{untouched, ends}
 
-long-code : Code tooLong
+long-code : Code too-long
 long-code = record { fits = omega arith; not-transfer = refl; not-toggle = refl }
 
-short-code : Code tooShort
+short-code : Code too-short
 short-code = record { fits = omega arith; not-transfer = refl; not-toggle = refl }
 
 -- a refused write has a code, and so has an entry that is closed
@@ -55,16 +55,16 @@ module _ (E : Entries) (S : Sound E) where
   unfolding Coded judged
   judged-coded g k low high bytes = go (ltb high (length bytes)) (ltb (length bytes) low)
     where
-      go : (d e : Bool) → Coded (cond d (declined tooLong) (cond e (declined tooShort) (E .commit g k bytes)))
+      go : (d e : Bool) → Coded (cond d (declined too-long) (cond e (declined too-short) (E .commit g k bytes)))
       go true e = long-code
       go false true = short-code
       go false false = commit-coded g k bytes (E .commit g k bytes) refl
 
-  allowed-coded : (k : Key) (s : Said) (z : Sizes) → E .rowOf k ≡ z → CodedSizes (narrow z s)
+  allowed-coded : (k : Key) (s : Said) (z : Sizes) → E .write-sizes k ≡ z → CodedSizes (narrow z s)
   unfolding CodedSizes narrow
   allowed-coded k (announced n) (sizes low high) e = go (ltb high n) (ltb n low)
     where
-      go : (d e : Bool) → CodedSizes (cond d (closed tooLong) (cond e (closed tooShort) (sizes n n)))
+      go : (d e : Bool) → CodedSizes (cond d (closed too-long) (cond e (closed too-short) (sizes n n)))
       go true e′ = long-code
       go false true = short-code
       go false false = tt
@@ -78,8 +78,8 @@ module _ (E : Entries) (S : Sound E) where
   carries-conclude g k y (restarted g′) h c = h
   carries-conclude g k y (declined n) h c = c
 
-  write-coded : (g : E .Store) (k : Key) (s : Said) (bytes : List ℕ) (z : Sizes) → CodedSizes z → Coded (judgedBy P g k s bytes z)
-  unfolding Coded CodedSizes judgedBy judged
+  write-coded : (g : E .Store) (k : Key) (s : Said) (bytes : List ℕ) (z : Sizes) → CodedSizes z → Coded (judged-by P g k s bytes z)
+  unfolding Coded CodedSizes judged-by judged
   write-coded g k s bytes (sizes low high) c = judged-coded g k low high (counted s high bytes)
   write-coded g k s bytes (closed n) c = c
 
@@ -87,14 +87,14 @@ module _ (E : Entries) (S : Sound E) where
   carries-cond true s s′ h h′ = h tt
   carries-cond false s s′ h h′ = h′
 
-  carries-part : (g : E .Store) (k : Key) (low high : ℕ) (all : List ℕ) (t last : Bool) (y : Answer Key) → Carried y → Carried ((takePart P g k low high all t last y) .answer)
-  unfolding takePart
+  carries-part : (g : E .Store) (k : Key) (low high : ℕ) (all : List ℕ) (t last : Bool) (y : Answer Key) → Carried y → Carried ((take-part P g k low high all t last y) .answer)
+  unfolding take-part
   carries-part g k low high all t true y h = carries-conclude g k y (judged P g k low high all) h (judged-coded g k low high all)
   carries-part g k low high all t false y h = carries-cond (ltb high (length all)) _ _ (λ _. long-code) h
 
-  carries-write-opening : (g : E .Store) (k : Key) (bytes : List ℕ) (z : Sizes) → CodedSizes z → Carried ((writeOpening P g k bytes z) .answer)
-  unfolding CodedSizes writeOpening takePart
-  carries-write-opening g k bytes (sizes low high) c = carries-part g k low high bytes false false (writeOpened k) tt
+  carries-write-opening : (g : E .Store) (k : Key) (bytes : List ℕ) (z : Sizes) → CodedSizes z → Carried ((write-opening P g k bytes z) .answer)
+  unfolding CodedSizes write-opening take-part
+  carries-write-opening g k bytes (sizes low high) c = carries-part g k low high bytes false false (write-opened k) tt
   carries-write-opening g k bytes (closed n) c = c
 
   both-true : (a b : Bool) → T (a && b) → T a × T b
@@ -102,8 +102,8 @@ module _ (E : Entries) (S : Sound E) where
   both-true true false t = absurd t
   both-true false b t = absurd t
 
-  carries-read-opening : (g : E .Store) (k : Key) (r : Read) → E .readWhole g k ≡ r → Carried ((readOpening P eight g k r) .answer)
-  unfolding eight readOpening
+  carries-read-opening : (g : E .Store) (k : Key) (r : Read) → E .read-whole g k ≡ r → Carried ((read-opening P eight g k r) .answer)
+  unfolding eight read-opening
   carries-read-opening g k (value bytes) e = go (short (length bytes)) (both-true (leb 1 (length bytes)) (leb (length bytes) 4))
     where
       n : ℕ
@@ -121,39 +121,39 @@ module _ (E : Entries) (S : Sound E) where
   at-most n bytes = rw length-take (omega arith)
 
   carries : (g : E .Store) (x : Pending Key) (a : Request Key) → Carried ((serve P eight g x a) .answer)
-  unfolding serve writeWhole eight
-  carries g x (openRead k) = carries-read-opening g k (E .readWhole g k) refl
-  carries g idle (nextPart u) = tt
-  carries g (reading k bytes p t) (nextPart u) =
-      carries-cond (Bool·beq t u) (givePart P eight g k bytes p t) (over P g (wrongToggle k)) (λ _. carries-cond (leb (length bytes) (p + 7)) _ _ (λ _. at-most 7 (drop p bytes)) (at-most 7 (drop p bytes))) tt
-  carries g (writing k low high sent t) (nextPart u) = tt
-  carries g x (expedited k s bytes) = carries-conclude g k (writeOpened k) (writeWhole P g k s bytes) tt (write-coded g k s bytes (allowed P k s) (allowed-coded k s (E .rowOf k) refl))
-  carries g x (openWrite k n bytes) = carries-write-opening g k bytes (allowed P k (say n)) (allowed-coded k (say n) (E .rowOf k) refl)
-  carries g idle (sendPart u bytes last) = tt
-  carries g (reading k held p t) (sendPart u bytes last) = tt
-  carries g (writing k low high sent t) (sendPart u bytes last) =
-      carries-cond (Bool·beq t u) (takePart P g k low high (sent ++ bytes) (not t) last (partTaken t)) (over P g (wrongToggle k)) (λ _. carries-part g k low high (sent ++ bytes) (not t) last (partTaken t) tt) tt
-  carries g x giveUp = tt
+  unfolding serve write-whole eight
+  carries g x (open-read k) = carries-read-opening g k (E .read-whole g k) refl
+  carries g idle (next-part u) = tt
+  carries g (reading k bytes p t) (next-part u) =
+      carries-cond (Bool·beq t u) (give-part P eight g k bytes p t) (over P g (wrong-toggle k)) (λ _. carries-cond (leb (length bytes) (p + 7)) _ _ (λ _. at-most 7 (drop p bytes)) (at-most 7 (drop p bytes))) tt
+  carries g (writing k low high sent t) (next-part u) = tt
+  carries g x (expedited k s bytes) = carries-conclude g k (write-opened k) (write-whole P g k s bytes) tt (write-coded g k s bytes (allowed P k s) (allowed-coded k s (E .write-sizes k) refl))
+  carries g x (open-write k n bytes) = carries-write-opening g k bytes (allowed P k (say n)) (allowed-coded k (say n) (E .write-sizes k) refl)
+  carries g idle (send-part u bytes last) = tt
+  carries g (reading k held p t) (send-part u bytes last) = tt
+  carries g (writing k low high sent t) (send-part u bytes last) =
+      carries-cond (Bool·beq t u) (take-part P g k low high (sent ++ bytes) (not t) last (part-taken t)) (over P g (wrong-toggle k)) (λ _. carries-part g k low high (sent ++ bytes) (not t) last (part-taken t) tt) tt
+  carries g x give-up = tt
   carries g x unknown = tt
 
   -- the bytes of every answer are eight, or none
   pub spoken-eight : (g : E .Store) (t : Transfer) (m : List ℕ) → ((speak E g t m) .bytes ≡ []) ⊎ (length ((speak E g t m) .bytes) ≡ 8)
   unfolding speak
-  spoken-eight g t m = answer-eight _ (carries g (view t) (askOf m))
+  spoken-eight g t m = answer-eight _ (carries g (view t) (ask-of m))
 
   -- THEOREM: a message that the client does not see end a write with yes leaves the store
-  pub unfinished : (g : E .Store) (t : Transfer) (m : List ℕ) → endsWrite (askOf m) (tellOf ((speak E g t m) .bytes)) ≡ false → (speak E g t m) .store ≡ g
+  pub unfinished : (g : E .Store) (t : Transfer) (m : List ℕ) → ends-write (ask-of m) (tell-of ((speak E g t m) .bytes)) ≡ false → (speak E g t m) .store ≡ g
   unfolding speak
   unfinished g t m h =
-      untouched P eight g (view t) (askOf m) (subst (λ (x : Answer Key). endsWrite (askOf m) x ≡ false) (round ((serve P eight g (view t) (askOf m)) .answer) (carries g (view t) (askOf m))) h)
+      untouched P eight g (view t) (ask-of m) (subst (λ (x : Answer Key). ends-write (ask-of m) x ≡ false) (round ((serve P eight g (view t) (ask-of m)) .answer) (carries g (view t) (ask-of m))) h)
 
   -- a client reads in every answer what the board meant
-  clear : Clear P (twoLines idle) (λ l. eight) (λ l. eightCodec)
+  clear : Clear P (two-lines idle) (λ l. eight) (λ l. eight-codec)
   clear l m h x a = round ((serve P eight h x a) .answer) (carries h x a)
 
   -- THEOREM: demand 3, for every list of calls, from any store with no transfer under way
   pub demand3 : (g : E .Store) (cs : List (BoardCall E)) → Demand3 E g cs
-  demand3 g cs = serial-bytes P (twoLines idle) (λ l. eight) (λ l. eightCodec) clear g cs
+  demand3 g cs = serial-bytes P (two-lines idle) (λ l. eight) (λ l. eight-codec) clear g cs
 
   long-not-short : (n : ℕ) → 4 < n → short n ≡ false
   long-not-short n h = go (leb n 4) (leb→le n 4)
@@ -162,38 +162,38 @@ module _ (E : Entries) (S : Sound E) where
       go true q = let z : n ≤ 4 = q tt in absurd (omega arith)
       go false q = and-false (leb 1 n)
 
-  holds-read : (b : TwoBoard E) (l : Line) (k : Key) (bytes : List ℕ) → E .readWhole (b .store) k ≡ value bytes → 4 < length bytes
-      → atLine (((step P (twoLines idle) (λ l. eight) b (message l (openRead k))) .0) .lines) l ≡ reading k bytes 0 false
+  holds-read : (b : TwoBoard E) (l : Line) (k : Key) (bytes : List ℕ) → E .read-whole (b .store) k ≡ value bytes → 4 < length bytes
+      → at-line (((step P (two-lines idle) (λ l. eight) b (message l (open-read k))) .0) .lines) l ≡ reading k bytes 0 false
   unfolding step serve eight
   holds-read b l k bytes e h =
-      own-line P (twoLines idle) (λ l. eight) (b .lines) l ((readOpening P eight (b .store) k (E .readWhole (b .store) k)) .after)
-      ∙ ap (λ (r : Read). left ((readOpening P eight (b .store) k r) .after)) e
+      own-line P (two-lines idle) (λ l. eight) (b .lines) l ((read-opening P eight (b .store) k (E .read-whole (b .store) k)) .after)
+      ∙ ap (λ (r : Read). left ((read-opening P eight (b .store) k r) .after)) e
       ∙ ap (λ (d : Bool). left ((cond d (over P (b .store) (opened k (length bytes) (take (cond d (length bytes) 0) bytes) true))
       (record { store = b .store; after = kept (reading k bytes (cond d (length bytes) 0) false); answer = opened k (length bytes) (take (cond d (length bytes) 0) bytes) false })) .after))
       (long-not-short (length bytes) h)
 
-  module _ (l : Line) (b : TwoBoard E) (m : List ℕ) (k : Key) (bytes : List ℕ) (opens : askOf m ≡ openRead k) (holds : E .readWhole (b .store) k ≡ value bytes) (long : 4 < length bytes)
+  module _ (l : Line) (b : TwoBoard E) (m : List ℕ) (k : Key) (bytes : List ℕ) (opens : ask-of m ≡ open-read k) (holds : E .read-whole (b .store) k ≡ value bytes) (long : 4 < length bytes)
       (cs : List (BoardCall E)) (parts : Parts E l b m cs) where
-    ended7 : Ends P (twoLines idle) (λ l. eight) l bytes 0 ((call P (twoLines idle) (λ l. eight) (λ l. eightCodec) b (heard l m)) .0)
-        (map (meant P (twoLines idle) (λ l. eight) (λ l. eightCodec)) cs)
+    ended7 : Ends P (two-lines idle) (λ l. eight) l bytes 0 ((call P (two-lines idle) (λ l. eight) (λ l. eight-codec) b (heard l m)) .0)
+        (map (meant P (two-lines idle) (λ l. eight) (λ l. eight-codec)) cs)
     unfolding call
     ended7 =
-        ends P (twoLines idle) (λ l. eight) l k bytes (map (meant P (twoLines idle) (λ l. eight) (λ l. eightCodec)) cs)
-        ((call P (twoLines idle) (λ l. eight) (λ l. eightCodec) b (heard l m)) .0) 0 false
-        (ap (λ (a : Request Key). atLine (((step P (twoLines idle) (λ l. eight) b (message l a)) .0) .lines) l) opens ∙ holds-read b l k bytes holds long)
+        ends P (two-lines idle) (λ l. eight) l k bytes (map (meant P (two-lines idle) (λ l. eight) (λ l. eight-codec)) cs)
+        ((call P (two-lines idle) (λ l. eight) (λ l. eight-codec) b (heard l m)) .0) 0 false
+        (ap (λ (a : Request Key). at-line (((step P (two-lines idle) (λ l. eight) b (message l a)) .0) .lines) l) opens ∙ holds-read b l k bytes holds long)
         (omega arith) (parts .right) (parts .calm)
 
-    as-got : (v : Option (List ℕ)) → follow P (twoLines idle) (λ l. eight) l (trace P (twoLines idle) (λ l. eight) ((call P (twoLines idle) (λ l. eight) (λ l. eightCodec) b (heard l m)) .0)
-        (map (meant P (twoLines idle) (λ l. eight) (λ l. eightCodec)) cs)) [] ≡ v → got E l b m cs ≡ v
+    as-got : (v : Option (List ℕ)) → follow P (two-lines idle) (λ l. eight) l (trace P (two-lines idle) (λ l. eight) ((call P (two-lines idle) (λ l. eight) (λ l. eight-codec) b (heard l m)) .0)
+        (map (meant P (two-lines idle) (λ l. eight) (λ l. eight-codec)) cs)) [] ≡ v → got E l b m cs ≡ v
     as-got v e =
-        ap (λ (ps : List (Event P (twoLines idle) (λ l. eight) × Answer Key)). follow P (twoLines idle) (λ l. eight) l ps [])
-        (decoded P (twoLines idle) (λ l. eight) (λ l. eightCodec) clear cs ((call P (twoLines idle) (λ l. eight) (λ l. eightCodec) b (heard l m)) .0)) ∙ e
+        ap (λ (ps : List (Event P (two-lines idle) (λ l. eight) × Answer Key)). follow P (two-lines idle) (λ l. eight) l ps [])
+        (decoded P (two-lines idle) (λ l. eight) (λ l. eight-codec) clear cs ((call P (two-lines idle) (λ l. eight) (λ l. eight-codec) b (heard l m)) .0)) ∙ e
 
     -- THEOREM: exactly L/7 parts, rounded up
-    pub finished-after : partsAsked E l cs ≡ (length bytes + 6) / 7 → got E l b m cs ≡ some bytes
+    pub finished-after : parts-asked-in E l cs ≡ (length bytes + 6) / 7 → got E l b m cs ≡ some bytes
     unfolding eight
     finished-after e = as-got (some bytes) (ended7 .at-last (omega (arith, e)))
 
-    pub not-finished-before : partsAsked E l cs < (length bytes + 6) / 7 → got E l b m cs ≡ none
+    pub not-finished-before : parts-asked-in E l cs < (length bytes + 6) / 7 → got E l b m cs ≡ none
     unfolding eight
     not-finished-before h = as-got none (ended7 .not-before (omega (arith, h)))

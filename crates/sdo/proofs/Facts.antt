@@ -8,9 +8,9 @@ use mathlib.Core.List.{List, [], _∷_, _++_}
 use lib.ListN.{length, take, drop, getD, replicate, length-take, length-drop}
 use lib.Seq.{getD-drop}
 use Rattle.wire.specs.Little.{little}
-use Rattle.order.specs.Talk.{opened, partGiven}
+use Rattle.order.specs.Talk.{opened, part-given}
 use Rattle.sdo.specs.declared.Key.{Key}
-use Rattle.sdo.specs.Eight.{choice, one, answerOf}
+use Rattle.sdo.specs.Eight.{choice, one, answer-of}
 
 -- a test whose result is known settles the definition's test
 pub said : {r s b : Bool} → r ≡ s → r ≡ b → s ≡ b
@@ -59,8 +59,8 @@ pub part-laid : (l : List ℕ) (p : ℕ) (t last : Bool) (h b0 b1 b2 b3 b4 b5 b6
     → b4 ≡ getD l (p + 4) 0
     → b5 ≡ getD l (p + 5) 0
     → b6 ≡ getD l (p + 6) 0
-    → (h ∷ b0 ∷ b1 ∷ b2 ∷ b3 ∷ b4 ∷ b5 ∷ b6 ∷ []) ≡ answerOf (partGiven t (take 7 (drop p l)) last)
-unfolding answerOf
+    → (h ∷ b0 ∷ b1 ∷ b2 ∷ b3 ∷ b4 ∷ b5 ∷ b6 ∷ []) ≡ answer-of (part-given t (take 7 (drop p l)) last)
+unfolding answer-of
 part-laid l p t last h b0 b1 b2 b3 b4 b5 b6 eh e0 e1 e2 e3 e4 e5 e6 =
     let n : length (take 7 (drop p l)) ≡ min 7 (length l - p) = simp (length-take, length-drop) in
     let z : getD (drop p l) 0 0 ≡ getD l p 0 = getD-drop p l 0 0 ∙ ap (λ (i : ℕ). getD l i 0) (add-zero p) in
@@ -81,8 +81,8 @@ pub short-laid : (k : Key) (held : List ℕ) (len b0 b1 b2 b3 : ℕ) → len ≤
     → b1 ≡ getD (take len held) 1 0
     → b2 ≡ getD (take len held) 2 0
     → b3 ≡ getD (take len held) 3 0
-    → ((67 + 4 * (4 - len)) ∷ k .index % 256 ∷ k .index / 256 ∷ k .sub ∷ b0 ∷ b1 ∷ b2 ∷ b3 ∷ []) ≡ answerOf (opened k len (take len held) true)
-unfolding answerOf
+    → ((67 + 4 * (4 - len)) ∷ k .index % 256 ∷ k .index / 256 ∷ k .sub ∷ b0 ∷ b1 ∷ b2 ∷ b3 ∷ []) ≡ answer-of (opened k len (take len held) true)
+unfolding answer-of
 short-laid k held len b0 b1 b2 b3 small fits e0 e1 e2 e3 =
     let n : length (take len held) ≡ len = rw length-take (omega arith) in
     let s : length (take len held) ≤ 4 = omega arith in

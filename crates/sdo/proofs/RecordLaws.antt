@@ -9,7 +9,7 @@ use lib.Dec.{eqb, ltb}
 use lib.ListN.{length, drop, length-append, length-drop}
 use lib.Seq.{take-at, length-take-le}
 use borrow.Author.Tests.{lt-ltb, eq-eqb, le-leb, ltb-true, eqb-true, leb-true}
-use Rattle.order.specs.Talk.{Request, openRead, nextPart, expedited, openWrite, sendPart, giveUp, unknown, Pending, idle, reading, writing}
+use Rattle.order.specs.Talk.{Request, open-read, next-part, expedited, open-write, send-part, give-up, unknown, Pending, idle, reading, writing}
 use Rattle.table.specs.Rows.{row-count, at-row}
 use Rattle.table.specs.Find.{find-row}
 use Rattle.table.specs.declared.Found.the-variants.{At}
@@ -18,12 +18,12 @@ use Rattle.sdo.specs.declared.Key.{Key}
 use Rattle.sdo.specs.declared.Direction.{Direction}
 use Rattle.sdo.specs.declared.Direction.the-variants.{Neither, Reads, Writes}
 use Rattle.sdo.specs.declared.Transfer.{Transfer}
-use Rattle.sdo.specs.Records.{allZero, keyAt, numberOf, rowNumber, allows, RowOf, counts, pending, view, base, lay}
+use Rattle.sdo.specs.Records.{zero-record, key-at, number-found, row-of, allows, RowOf, counts, pending, view, base, lay}
 
 -- a transfer of an entry whose row allows it, of the row's length, with its place inside
 pub record Fits (d : Direction) (row : ℕ) (k : Key) (len place : ℕ) : Type 0 where
   pub there : row < row-count
-  pub key-is : k ≡ keyAt row
+  pub key-is : k ≡ key-at row
   pub allowed : allows d (at-row row .access) ≡ true
   pub length-is : len ≡ at-row row .len
   pub place-in : place ≤ len
@@ -32,7 +32,7 @@ pub at-most-64 : {d : Direction} {row : ℕ} {k : Key} {len place : ℕ} → Fit
 at-most-64 f = rw (f .length-is) (row-rule _ (f .there) .most)
 
 -- a record that counts fits the table, and one that fits counts
-pub counts-fits : (t : Transfer) → counts t ≡ true → Fits (t .direction) (t .row) (keyAt (t .row)) (t .len) (t .place)
+pub counts-fits : (t : Transfer) → counts t ≡ true → Fits (t .direction) (t .row) (key-at (t .row)) (t .len) (t .place)
 unfolding counts
 counts-fits t e =
     let a = and-eq-true-iff (ltb (t .row) row-count) _ .0 e in
@@ -45,16 +45,16 @@ unfolding counts
 fits-counts t k f = rw (lt-ltb (t .row) row-count (f .there), f .allowed, eq-eqb (t .len) (at-row (t .row) .len) (f .length-is), le-leb (t .place) (t .len) (f .place-in))
 
 -- an entry and the row that the table finds for it
-pub found-key : (k : Key) (row : ℕ) → find-row (k .index) (k .sub) ≡ At row → k ≡ keyAt row
+pub found-key : (k : Key) (row : ℕ) → find-row (k .index) (k .sub) ≡ At row → k ≡ key-at row
 found-key k row e =
     let at = find-at (k .index) (k .sub) row e in
     ap₂ (λ (i s : ℕ). record { index = i; sub = s }) (sym (at .index-is)) (sym (at .sub-is))
 
-pub found-number : (k : Key) (row : ℕ) → find-row (k .index) (k .sub) ≡ At row → rowNumber k ≡ row
-unfolding numberOf
+pub found-number : (k : Key) (row : ℕ) → find-row (k .index) (k .sub) ≡ At row → row-of k ≡ row
+unfolding number-found
 found-number k row e = rw e
 
-pub row-fits : (d : Direction) (k : Key) (n place : ℕ) → RowOf d k n → place ≤ n → Fits d (rowNumber k) k n place
+pub row-fits : (d : Direction) (k : Key) (n place : ℕ) → RowOf d k n → place ≤ n → Fits d (row-of k) k n place
 row-fits d k n place r h =
     rw (found-number k (r .row) (r .found))
     (record {
@@ -81,7 +81,7 @@ Valid row idle = Unit {0}
 Valid row (reading k bytes place t) = Fits Reads row k (length bytes) place
 Valid row (writing k low high sent t) = (low ≡ high) × Fits Writes row k high (length sent)
 
-pub view-zero : view allZero ≡ idle
+pub view-zero : view zero-record ≡ idle
 unfolding view
 view-zero = refl
 
@@ -102,7 +102,7 @@ view-lay t (writing k low high sent u) v = rw (fits-counts (lay t (writing k low
 abbrev pub Whole : Transfer → Type 0
 Whole t = length (t .held) ≡ 64
 
-valid-pending : (d : Direction) (t : Transfer) → Whole t → Fits d (t .row) (keyAt (t .row)) (t .len) (t .place) → Valid (t .row) (pending d t)
+valid-pending : (d : Direction) (t : Transfer) → Whole t → Fits d (t .row) (key-at (t .row)) (t .len) (t .place) → Valid (t .row) (pending d t)
 unfolding pending
 valid-pending Neither t w f = tt
 valid-pending Reads t w f = rw (length-take-le (t .len) (t .held) (omega (arith, at-most-64 f))) f
@@ -133,16 +133,16 @@ whole-lay t (writing k low high sent u) w v =
 
 pub whole-base : (t : Transfer) (a : Request Key) → Whole t → Whole (base t a)
 unfolding base
-whole-base t (openRead k) w = refl
-whole-base t (nextPart u) w = w
+whole-base t (open-read k) w = refl
+whole-base t (next-part u) w = w
 whole-base t (expedited k s bytes) w = refl
-whole-base t (openWrite k n bytes) w = refl
-whole-base t (sendPart u bytes last) w = w
-whole-base t giveUp w = refl
+whole-base t (open-write k n bytes) w = refl
+whole-base t (send-part u bytes last) w = w
+whole-base t give-up w = refl
 whole-base t unknown w = refl
 
 -- what a message leaves: a record that counts, or one that is all zero
-pub lay-served : (t : Transfer) (x : Pending Key) → Valid (t .row) x → (counts (lay t x) ≡ true) ⊎ (lay t x ≡ allZero)
+pub lay-served : (t : Transfer) (x : Pending Key) → Valid (t .row) x → (counts (lay t x) ≡ true) ⊎ (lay t x ≡ zero-record)
 unfolding lay
 lay-served t idle v = inr refl
 lay-served t (reading k bytes place u) v = inl (fits-counts (lay t (reading k bytes place u)) k v)
@@ -154,7 +154,7 @@ pub record Small (t : Transfer) : Type 0 where
   pub len-fits : t .len < 256
   pub place-fits : t .place < 256
 
-pub served-small : (t : Transfer) → (counts t ≡ true) ⊎ (t ≡ allZero) → Small t
+pub served-small : (t : Transfer) → (counts t ≡ true) ⊎ (t ≡ zero-record) → Small t
 served-small t (inl c) =
     let f = counts-fits t c in
     let r : t .row < row-count = f .there in

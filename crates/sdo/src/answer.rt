@@ -5,12 +5,12 @@ ghost use mathlib.Core.List.{[]};
 ghost use mathlib.Core.Path.{_≡_};
 ghost use Prim.Native.Nat.{_+_, _-_, _*_, _≤_, _<_};
 ghost use lib.ListN.{length, take, drop, getD};
-ghost use Rattle.order.specs.Talk.{opened, partGiven, writeOpened, partTaken, refused, wrongToggle, noTransfer};
-ghost use Rattle.sdo.specs.Eight.{one, answerOf};
+ghost use Rattle.order.specs.Talk.{opened, part-given, write-opened, part-taken, refused, wrong-toggle, no-transfer};
+ghost use Rattle.sdo.specs.Eight.{one, answer-of};
 ghost use Rattle.sdo.specs.Lines.{short};
 
 pub fn abort(k: Key, code: u32) -> [u8; 8]
-    ensures { λ r. ⌜ r ≡ answerOf (refused k code) ⌝ }
+    ensures { λ r. ⌜ r ≡ answer-of (refused k code) ⌝ }
 {
     let second = code / 256;
     let third = second / 256;
@@ -28,19 +28,19 @@ pub fn abort(k: Key, code: u32) -> [u8; 8]
 }
 
 pub fn wrong_toggle(k: Key) -> [u8; 8]
-    ensures { λ r. ⌜ r ≡ answerOf (wrongToggle k) ⌝ }
+    ensures { λ r. ⌜ r ≡ answer-of (wrong-toggle k) ⌝ }
 {
     abort(k, 0x05030000)
 }
 
 pub fn no_transfer() -> [u8; 8]
-    ensures { λ r. ⌜ r ≡ answerOf noTransfer ⌝ }
+    ensures { λ r. ⌜ r ≡ answer-of no-transfer ⌝ }
 {
     [0x80, 0, 0, 0, 1, 0, 4, 5]
 }
 
 pub fn write_opened(k: Key) -> [u8; 8]
-    ensures { λ r. ⌜ r ≡ answerOf (writeOpened k) ⌝ }
+    ensures { λ r. ⌜ r ≡ answer-of (write-opened k) ⌝ }
 {
     [
         0x60,
@@ -55,7 +55,7 @@ pub fn write_opened(k: Key) -> [u8; 8]
 }
 
 pub fn part_taken(toggle: bool) -> [u8; 8]
-    ensures { λ r. ⌜ r ≡ answerOf (partTaken toggle) ⌝ }
+    ensures { λ r. ⌜ r ≡ answer-of (part-taken toggle) ⌝ }
 {
     if toggle {
         return [0x30, 0, 0, 0, 0, 0, 0, 0];
@@ -66,7 +66,7 @@ pub fn part_taken(toggle: bool) -> [u8; 8]
 // The opening of a read that is longer than four bytes.
 pub fn opened_long(k: Key, len: usize) -> [u8; 8]
     requires { ⌜ len ≤ 64 ⌝ }
-    ensures { λ r. ⌜ r ≡ answerOf (opened k len [] false) ⌝ }
+    ensures { λ r. ⌜ r ≡ answer-of (opened k len [] false) ⌝ }
 {
     [
         0x41,
@@ -101,7 +101,7 @@ pub fn is_short(len: usize) -> bool
 // The opening of a read of up to four bytes, with the value.
 pub fn opened_short(k: Key, held: &[u8], len: usize) -> [u8; 8]
     requires { ⌜ ((1 ≤ len) × (len ≤ 4)) × (len ≤ length (now held)) ⌝ }
-    ensures { λ r. ⌜ r ≡ answerOf (opened k len (take len (now (held .entry))) true) ⌝ }
+    ensures { λ r. ⌜ r ≡ answer-of (opened k len (take len (now (held .entry))) true) ⌝ }
 {
     [
         (67 + 4 * (4 - len)) as u8,
@@ -118,7 +118,7 @@ pub fn opened_short(k: Key, held: &[u8], len: usize) -> [u8; 8]
 // A part of a read that is not the last: all seven bytes are used.
 pub fn part_more(held: &[u8], place: usize, toggle: bool) -> [u8; 8]
     requires { ⌜ place + 7 < length (now held) ⌝ }
-    ensures { λ r. ⌜ r ≡ answerOf (partGiven toggle (take 7 (drop place (now (held .entry)))) false) ⌝ }
+    ensures { λ r. ⌜ r ≡ answer-of (part-given toggle (take 7 (drop place (now (held .entry)))) false) ⌝ }
 {
     let head: u8 = if toggle { 16 } else { 0 };
     [
@@ -147,7 +147,7 @@ fn last_head(toggle: bool, len: usize, place: usize) -> u8
 
 pub fn part_last(held: &[u8], len: usize, place: usize, toggle: bool) -> [u8; 8]
     requires { ⌜ ((len ≤ 64) × (place ≤ len) × (len ≤ place + 7)) × (length (now held) ≡ 64) ⌝ }
-    ensures { λ r. ⌜ r ≡ answerOf (partGiven toggle (take 7 (drop place (take len (now (held .entry))))) true) ⌝ }
+    ensures { λ r. ⌜ r ≡ answer-of (part-given toggle (take 7 (drop place (take len (now (held .entry))))) true) ⌝ }
 {
     [
         last_head(toggle, len, place),

@@ -6,7 +6,7 @@ use wire::wide;
 ghost use mathlib.Core.Path.{_≡_};
 ghost use Prim.Native.Nat.{_≤_};
 ghost use lib.ListN.{length};
-ghost use Rattle.sdo.specs.Eight.{bit, keyOf, openingOf, messageOf};
+ghost use Rattle.sdo.specs.Eight.{bit, key-of, opening-of, message-of};
 
 pub fn bit_of(weight: u8, b: u8) -> bool
     requires { ⌜ 1 ≤ weight ⌝ }
@@ -17,7 +17,7 @@ pub fn bit_of(weight: u8, b: u8) -> bool
 
 pub fn key_of(m: &[u8]) -> Key
     requires { ⌜ length (now m) ≡ 8 ⌝ }
-    ensures { λ r. ⌜ r ≡ keyOf (now (m .entry)) ⌝ }
+    ensures { λ r. ⌜ r ≡ key-of (now (m .entry)) ⌝ }
 {
     let low = wide::to_u16(m[1]);
     let high = wide::to_u16(m[2]);
@@ -30,7 +30,7 @@ pub fn key_of(m: &[u8]) -> Key
 // The opening of a write: with the value in it or not, with a length or not.
 pub fn opening_of(m: &[u8]) -> Opening
     requires { ⌜ length (now m) ≡ 8 ⌝ }
-    ensures { λ r. ⌜ r ≡ openingOf (now (m .entry)) ⌝ }
+    ensures { λ r. ⌜ r ≡ opening-of (now (m .entry)) ⌝ }
 {
     let first = m[0];
     if bit_of(2, first) {
@@ -47,7 +47,7 @@ pub fn opening_of(m: &[u8]) -> Opening
 
 pub fn message_of(m: &[u8]) -> Message
     requires { ⌜ length (now m) ≡ 8 ⌝ }
-    ensures { λ r. ⌜ r ≡ messageOf (now (m .entry)) ⌝ }
+    ensures { λ r. ⌜ r ≡ message-of (now (m .entry)) ⌝ }
 {
     let first = m[0];
     let specifier = first / 32;

@@ -7,12 +7,12 @@ ghost use mathlib.Core.Path.{_≡_};
 ghost use Prim.Native.Nat.{_+_, _≤_, _<_};
 ghost use lib.ListN.{length, take, drop};
 ghost use Rattle.table.specs.Rows.{row-count};
-ghost use Rattle.sdo.specs.Records.{keyAt, allows, fitting, counts};
-ghost use Rattle.sdo.specs.Replies.{is-reading, is-writing, openedRecord, turned, grown};
+ghost use Rattle.sdo.specs.Records.{key-at, allows, fitting, counts};
+ghost use Rattle.sdo.specs.Replies.{is-reading, is-writing, opened-record, turned, grown};
 
 pub fn key_at(row: usize) -> Key
     requires { ⌜ row < row-count ⌝ }
-    ensures { λ r. ⌜ r ≡ keyAt row ⌝ }
+    ensures { λ r. ⌜ r ≡ key-at row ⌝ }
 {
     Key {
         index: find::field::index_of(row),
@@ -71,7 +71,7 @@ pub fn writing(t: Transfer) -> bool
 
 // An opening starts with no byte given or sent, and toggle 0.
 pub fn opened(direction: Direction, row: usize, held: [u8; 64], len: usize) -> Transfer
-    ensures { λ r. ⌜ r ≡ openedRecord direction row held len ⌝ }
+    ensures { λ r. ⌜ r ≡ opened-record direction row held len ⌝ }
 {
     Transfer {
         held,

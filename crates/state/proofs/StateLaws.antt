@@ -14,7 +14,7 @@ use Rattle.wire.proofs.SpliceLaws.{length-splice, splice-whole, splice-behind, 
 use Rattle.wire.proofs.Overlaps.{splice-inside}
 use Rattle.sdo.specs.declared.Direction.{Direction}
 use Rattle.sdo.specs.declared.Transfer.{Transfer}
-use Rattle.sdo.specs.Records.{allZero}
+use Rattle.sdo.specs.Records.{zero-record}
 use Rattle.sdo.specs.Replies.{grown}
 use Rattle.state.specs.State.{direction-of, direction-byte, record-at, record-tail, record-bytes}
 use Rattle.wire.proofs.InARow.{four-in-a-row}
@@ -66,6 +66,6 @@ part-put l at t bytes room is fits e₁ en e₂ =
     e₂ ∙ rw (e₁, en) (rw (← s) (splice-behind l at h tail (at + 64) (omega arith) (omega arith)))
 
 -- an ended transfer's record
-pub record-cleared : (l : List ℕ) (at : ℕ) {l′ : List ℕ} → l′ ≡ splice l at (take 70 (drop 0 (replicate 70 0))) → l′ ≡ splice l at (record-bytes allZero)
+pub record-cleared : (l : List ℕ) (at : ℕ) {l′ : List ℕ} → l′ ≡ splice l at (take 70 (drop 0 (replicate 70 0))) → l′ ≡ splice l at (record-bytes zero-record)
 unfolding record-bytes record-tail direction-byte little
 record-cleared l at e = e

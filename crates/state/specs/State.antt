@@ -12,7 +12,7 @@ use Rattle.trip.specs.Trip.{all-off}
 use Rattle.sdo.specs.declared.Direction.{Direction}
 use Rattle.sdo.specs.declared.Direction.the-variants.{Neither, Reads, Writes}
 use Rattle.sdo.specs.declared.Transfer.{Transfer}
-use Rattle.sdo.specs.Records.{allZero}
+use Rattle.sdo.specs.Records.{zero-record}
 
 -- line 0's record, then line 1's
 unfoldable pub record-place : ℕ → ℕ
@@ -63,7 +63,7 @@ trips-bytes t = flags (t .one .high) (t .one .low) (t .two .high) (t .two .low)
 
 -- power-up and device reset (R9.3)
 unfoldable pub dropped : List ℕ → List ℕ
-dropped state = splice (splice (splice state 0 (record-bytes allZero)) 96 (record-bytes allZero)) trips-place (trips-bytes all-off)
+dropped state = splice (splice (splice state 0 (record-bytes zero-record)) 96 (record-bytes zero-record)) trips-place (trips-bytes all-off)
 
 -- a message leaves its line's next record; a device reset drops both lines' transfers (R8.8). All else of the state stays (R6.1)
 unfoldable pub settled : ℕ → Transfer → Bool → List ℕ → List ℕ

@@ -10,7 +10,7 @@ ghost use mathlib.Core.Path.{_≡_};
 ghost use Prim.Native.Nat.{_+_, _≤_};
 ghost use lib.ListN.{length, take, drop};
 ghost use Rattle.wire.specs.Splice.{splice};
-ghost use Rattle.sdo.specs.Records.{allZero};
+ghost use Rattle.sdo.specs.Records.{zero-record};
 ghost use Rattle.sdo.specs.Replies.{grown};
 ghost use Rattle.state.specs.State.{record-at, record-tail, record-bytes, trips-place, trips-at, trips-bytes, direction-of, direction-byte, dropped};
 
@@ -74,7 +74,7 @@ fn put_tail(state: &mut [u8], at: usize, t: Transfer)
 // Makes a record all zero.
 pub fn clear_record(state: &mut [u8], at: usize)
     requires { ⌜ at + 70 ≤ length (now state) ⌝ }
-    ensures { λ _. ⌜ now (state .exit) ≡ splice (now (state .entry)) at (record-bytes allZero) ⌝ }
+    ensures { λ _. ⌜ now (state .exit) ≡ splice (now (state .entry)) at (record-bytes zero-record) ⌝ }
 {
     let zeros = [0u8; 70];
     wire::copy_at(state, at, &zeros, 0, 70);

@@ -3,11 +3,11 @@ use mathlib.Core.Path.{refl, sym, ap, _∙_}
 use borrow.Author.Needs.{needs}
 use Rattle.table.specs.Find.{find-row}
 use Rattle.gate.specs.Gates.{read-gate}
-use Rattle.sdo.specs.Replies.{ending, nextPartReply}
+use Rattle.sdo.specs.Replies.{ending, next-part-reply}
 use Rattle.sdo.specs.declared.Message.{Message}
 use Rattle.sdo.proofs.ReplyLaws.{part-count}
 use Rattle.state.specs.State.{record-at}
-use Rattle.line.specs.Answering.{through, open-read, reply-to, answered}
+use Rattle.line.specs.Answering.{through, opens-read, reply-to, answered}
 use Rattle.line.proofs.Answered.{kept-told, told-as, next-done, read-done}
 use Rattle.line.proofs.speak.Statement.{statement}
 use Rattle.line.proofs.speak.Tie as tie
@@ -112,7 +112,7 @@ returns-3 c =
     let b = s .args .block .now in
     let o = s .args .state .now in
     let k = c .before .before .before .before .before .before .said3 .given .0 .0 in
-    kept-told p v b o (through (read-gate (find-row (k .index) (k .sub))) k (open-read v)) (read-done k v) (c .before .before .open-read .ensures) ∙ ap (λ (q : Message). answered p v b o (reply-to q (s .args .m .now) v (record-at o p))) (sym (c .before .before .before .before .before .before .said3 .given .1))
+    kept-told p v b o (through (read-gate (find-row (k .index) (k .sub))) k (opens-read v)) (read-done k v) (c .before .before .open-read .ensures) ∙ ap (λ (q : Message). answered p v b o (reply-to q (s .args .m .now) v (record-at o p))) (sym (c .before .before .before .before .before .before .said3 .given .1))
 
 same-length-9 : tie.Need-same-length-9
 same-length-9 c = search needs
@@ -126,7 +126,7 @@ returns-4 c =
     let b = s .args .block .now in
     let o = s .args .state .now in
     let u = c .before .before .before .before .before .said4 .given .0 .0 in
-    kept-told p v b o (nextPartReply (record-at o p) u) (next-done (record-at o p) u) (c .before .before .next-part .ensures) ∙ ap (λ (q : Message). answered p v b o (reply-to q (s .args .m .now) v (record-at o p))) (sym (c .before .before .before .before .before .said4 .given .1))
+    kept-told p v b o (next-part-reply (record-at o p) u) (next-done (record-at o p) u) (c .before .before .next-part .ensures) ∙ ap (λ (q : Message). answered p v b o (reply-to q (s .args .m .now) v (record-at o p))) (sym (c .before .before .before .before .before .said4 .given .1))
 
 same-length-10 : tie.Need-same-length-10
 same-length-10 c = search needs

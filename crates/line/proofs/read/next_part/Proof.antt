@@ -2,9 +2,9 @@
 use mathlib.Core.Bool.{and-eq-true-iff}
 use mathlib.Core.Path.{ap, _∙_}
 use borrow.Author.Needs.{needs}
-use Rattle.order.specs.Talk.{wrongToggle}
-use Rattle.sdo.specs.Eight.{answerOf}
-use Rattle.sdo.specs.Replies.{is-reading, nextPartReply}
+use Rattle.order.specs.Talk.{wrong-toggle}
+use Rattle.sdo.specs.Eight.{answer-of}
+use Rattle.sdo.specs.Replies.{is-reading, next-part-reply}
 use Rattle.sdo.specs.declared.Key.{Key}
 use Rattle.sdo.specs.declared.Transfer.{Transfer}
 use Rattle.sdo.proofs.Facts.{said}
@@ -33,7 +33,7 @@ returns c =
     let o = s .args .state .now in
     let t = c .before .before .before .before .before .before .before .record-at .result in
     let u = s .args .toggle in
-    c .before .before .give-part .ensures ∙ ap (replied p o) (next-given t u (said (c .before .before .before .before .before .before .reading .ensures) (c .before .before .before .before .before .if1 .taken)) (c .before .before .before .before .if2 .taken) ∙ ap (λ (x : Transfer). nextPartReply x u) (c .before .before .before .before .before .before .before .record-at .ensures))
+    c .before .before .give-part .ensures ∙ ap (replied p o) (next-given t u (said (c .before .before .before .before .before .before .reading .ensures) (c .before .before .before .before .before .if1 .taken)) (c .before .before .before .before .if2 .taken) ∙ ap (λ (x : Transfer). next-part-reply x u) (c .before .before .before .before .before .before .before .record-at .ensures))
 
 key-at-requires : tie.Need-key-at-requires
 key-at-requires c κs = let f = counts-fits (c .before .before .before .before .record-at .result) (and-eq-true-iff (is-reading (c .before .before .before .before .record-at .result .direction)) _ .0 (said (c .before .before .before .reading .ensures) (c .before .before .if1 .taken)) .1) in f .there
@@ -54,7 +54,7 @@ returns-2 c =
     let o = s .args .state .now in
     let t = c .before .before .before .before .before .before .before .before .before .record-at .result in
     let u = s .args .toggle in
-    c .before .before .ended .ensures ∙ ap (replied p o) (next-wrong t u (said (c .before .before .before .before .before .before .before .before .reading .ensures) (c .before .before .before .before .before .before .before .if1 .taken)) (c .before .before .before .before .before .before .if2 .left) (c .before .before .before .wrong-toggle .ensures ∙ ap (λ (k : Key). answerOf (wrongToggle k)) (c .before .before .before .before .key-at .ensures)) ∙ ap (λ (x : Transfer). nextPartReply x u) (c .before .before .before .before .before .before .before .before .before .record-at .ensures))
+    c .before .before .ended .ensures ∙ ap (replied p o) (next-wrong t u (said (c .before .before .before .before .before .before .before .before .reading .ensures) (c .before .before .before .before .before .before .before .if1 .taken)) (c .before .before .before .before .before .before .if2 .left) (c .before .before .before .wrong-toggle .ensures ∙ ap (λ (k : Key). answer-of (wrong-toggle k)) (c .before .before .before .before .key-at .ensures)) ∙ ap (λ (x : Transfer). next-part-reply x u) (c .before .before .before .before .before .before .before .before .before .record-at .ensures))
 
 no-transfer-requires : tie.Need-no-transfer-requires
 no-transfer-requires c κs = search needs
@@ -72,7 +72,7 @@ returns-3 c =
     let o = s .args .state .now in
     let t = c .before .before .before .before .before .before .before .record-at .result in
     let u = s .args .toggle in
-    c .before .before .ended2 .ensures ∙ ap (replied p o) (next-none t u (said (c .before .before .before .before .before .before .reading .ensures) (c .before .before .before .before .before .if1 .left)) (c .before .before .before .no-transfer .ensures) ∙ ap (λ (x : Transfer). nextPartReply x u) (c .before .before .before .before .before .before .before .record-at .ensures))
+    c .before .before .ended2 .ensures ∙ ap (replied p o) (next-none t u (said (c .before .before .before .before .before .before .reading .ensures) (c .before .before .before .before .before .if1 .left)) (c .before .before .before .no-transfer .ensures) ∙ ap (λ (x : Transfer). next-part-reply x u) (c .before .before .before .before .before .before .before .record-at .ensures))
 
 pub next-part-spec : {M : Type 1} → statement M
 next-part-spec =

@@ -3,7 +3,7 @@ use mathlib.Core.Path.{ap, _∙_}
 use borrow.Author.Needs.{needs}
 use Rattle.table.specs.Row.{WO}
 use Rattle.gate.specs.Codes.{write-only}
-use Rattle.line.specs.Answering.{replied, open-read}
+use Rattle.line.specs.Answering.{replied, opens-read}
 use Rattle.line.proofs.Doors.{open-row, open-reply, shut-reply}
 use Rattle.line.proofs.read.open_read.Statement.{statement}
 use Rattle.line.proofs.read.open_read.Tie as tie
@@ -37,7 +37,7 @@ returns c =
     let s = g .before .before .before .before .before in
     let p = s .args .at in
     let o = s .args .state .now in
-    c .before .before .open-row .ensures ∙ ap (replied p o) (open-reply WO write-only (s .args .k) (g .before .before .to-read .ensures .0) (open-read (s .args .values .now)) (g .gate .given .0 .0) (g .gate .given .0 .1 .0) (g .gate .given .1))
+    c .before .before .open-row .ensures ∙ ap (replied p o) (open-reply WO write-only (s .args .k) (g .before .before .to-read .ensures .0) (opens-read (s .args .values .now)) (g .gate .given .0 .0) (g .gate .given .0 .1 .0) (g .gate .given .1))
 
 same-length-2 : tie.Need-same-length-2
 same-length-2 c = search needs
@@ -48,7 +48,7 @@ returns-2 c =
     let s = g .before .before .before .before .before in
     let p = s .args .at in
     let o = s .args .state .now in
-    c .before .before .refused .ensures ∙ ap (replied p o) (shut-reply WO write-only (s .args .k) (g .before .before .to-read .ensures .0) (open-read (s .args .values .now)) (g .gate2 .given .0 .0) (g .gate2 .given .1))
+    c .before .before .refused .ensures ∙ ap (replied p o) (shut-reply WO write-only (s .args .k) (g .before .before .to-read .ensures .0) (opens-read (s .args .values .now)) (g .gate2 .given .0 .0) (g .gate2 .given .1))
 
 pub open-read-spec : {M : Type 1} → statement M
 open-read-spec =

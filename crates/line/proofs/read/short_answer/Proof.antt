@@ -12,7 +12,7 @@ use Rattle.table.specs.Rows.{row-count, at-row}
 use Rattle.table.proofs.Table.{row-rule, placed}
 use Rattle.table.proofs.Widths.{card-width}
 use Rattle.gauge.proofs.CommitLaws.{word-left, read-command}
-use Rattle.sdo.specs.Eight.{answerOf}
+use Rattle.sdo.specs.Eight.{answer-of}
 use Rattle.line.proofs.Doors.{shown-whole, shown-part}
 use Rattle.line.proofs.read.short_answer.Statement.{statement}
 use Rattle.line.proofs.read.short_answer.Tie as tie
@@ -49,7 +49,7 @@ returns c =
     let p = c .before .before .place-of in
     let n : p .result + s .args .len - p .result ≡ s .args .len = omega arith in
     c .opened-short .ensures
-    ∙ ap (λ (l : List ℕ). answerOf (opened (s .args .k) (s .args .len) l true)) (shown-part (s .args .values .now) (s .args .row) (s .pre .1 .0) (s .pre .0) (s .pre .3) (omega (arith, s .pre .2, c .before .before .before .if1 .taken)) (ap₂ (λ (m a : ℕ). take m (drop a (s .args .values .now))) n (p .ensures)))
+    ∙ ap (λ (l : List ℕ). answer-of (opened (s .args .k) (s .args .len) l true)) (shown-part (s .args .values .now) (s .args .row) (s .pre .1 .0) (s .pre .0) (s .pre .3) (omega (arith, s .pre .2, c .before .before .before .if1 .taken)) (ap₂ (λ (m a : ℕ). take m (drop a (s .args .values .now))) n (p .ensures)))
 
 command-at-requires : tie.Need-command-at-requires
 command-at-requires c κs =
@@ -75,7 +75,7 @@ returns-2 c =
     let k = q .2 ∙ word-left (s .args .row) (s .args .kind) (q .1 .0) (q .2) (i .if1 .left) (no-card (s .args .row) (s .args .kind) (q .1 .0) (q .2) (q .3) (q .4 .1)) in
     let v = read-command (at-row (s .args .row)) (s .args .values .now) (s .args .kind) (q .2) k (w .reading .ensures ∙ rw (w .before .command-at .ensures)) in
     c .opened-short2 .ensures
-    ∙ ap (λ (l : List ℕ). answerOf (opened (s .args .k) (s .args .len) l true)) (shown-whole (s .args .values .now) (s .args .row) (q .1 .0) (q .0) (q .3) v)
+    ∙ ap (λ (l : List ℕ). answer-of (opened (s .args .k) (s .args .len) l true)) (shown-whole (s .args .values .now) (s .args .row) (q .1 .0) (q .0) (q .3) v)
 
 pub short-answer-spec : {M : Type 1} → statement M
 short-answer-spec =

@@ -1,7 +1,7 @@
 -- `line::write::answer_by`: by the ending. Assumes nothing.
 use mathlib.Core.Path.{sym, ap, _∙_}
 use Rattle.order.specs.Talk.{refused}
-use Rattle.sdo.specs.Eight.{answerOf}
+use Rattle.sdo.specs.Eight.{answer-of}
 use Rattle.sdo.specs.declared.Key.{Key}
 use Rattle.line.specs.Answering.{eight-by}
 use borrow.Author.Needs.{needs}
@@ -36,7 +36,7 @@ unfolding eight-by
 returns-3 c =
     let s = c .before .before .before .before .before in
     let e = c .before .before .before .ending .given in
-    c .abort .ensures ∙ ap (λ (k : Key). answerOf (refused k (e .0 .0))) (c .before .key-at .ensures) ∙ ap (eight-by (s .args .row) (s .args .eight)) (sym (e .1))
+    c .abort .ensures ∙ ap (λ (k : Key). answer-of (refused k (e .0 .0))) (c .before .key-at .ensures) ∙ ap (eight-by (s .args .row) (s .args .eight)) (sym (e .1))
 
 pub answer-by-spec : {M : Type 1} → statement M
 answer-by-spec =

@@ -2,7 +2,7 @@
 use mathlib.Core.Path.{sym, ap, _∙_}
 use native.Mathlib.Omega.{arith}
 use borrow.Author.Needs.{needs}
-use Rattle.order.specs.Gauge.{tooLong, tooShort}
+use Rattle.order.specs.Gauge.{too-long, too-short}
 use Rattle.sdo.proofs.ReplyLaws.{announced-long, announced-short, announced-right}
 use Rattle.line.specs.Answering.{replied}
 use Rattle.line.proofs.Answered.{refused-row}
@@ -20,7 +20,7 @@ returns c =
     let s = c .before .before .before .before .before .before in
     let p = s .args .at in
     let o = s .args .state .now in
-    refused-row p o (s .args .row) tooLong (s .pre .2) (c .before .before .refused .ensures) ∙ ap (replied p o) (sym (announced-long (s .args .row) (s .args .n) (omega (arith, s .pre .3))))
+    refused-row p o (s .args .row) too-long (s .pre .2) (c .before .before .refused .ensures) ∙ ap (replied p o) (sym (announced-long (s .args .row) (s .args .n) (omega (arith, s .pre .3))))
 
 refused-requires-2 : tie.Need-refused-requires-2
 refused-requires-2 c κs = search needs
@@ -33,7 +33,7 @@ returns-2 c =
     let s = c .before .before .before .before .before .before .before in
     let p = s .args .at in
     let o = s .args .state .now in
-    refused-row p o (s .args .row) tooShort (s .pre .2) (c .before .before .refused2 .ensures) ∙ ap (replied p o) (sym (announced-short (s .args .row) (s .args .n) (omega (arith, s .pre .3))))
+    refused-row p o (s .args .row) too-short (s .pre .2) (c .before .before .refused2 .ensures) ∙ ap (replied p o) (sym (announced-short (s .args .row) (s .args .n) (omega (arith, s .pre .3))))
 
 open-parts-requires : tie.Need-open-parts-requires
 open-parts-requires c κs = search needs

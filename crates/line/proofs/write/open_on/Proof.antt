@@ -3,11 +3,11 @@ use mathlib.Core.Path.{sym, ap, _∙_}
 use borrow.Author.Needs.{needs}
 use Rattle.order.specs.Talk.{announced, unsaid}
 use Rattle.find.proofs.Shapes.{kind-told, len-told}
-use Rattle.sdo.specs.Replies.{openWriteReply}
+use Rattle.sdo.specs.Replies.{open-write-reply}
 use Rattle.sdo.specs.declared.Opening.{Opening}
 use Rattle.sdo.specs.declared.Message.the-variants.{OpenWrite}
 use Rattle.sdo.proofs.ReplyLaws.{value-count}
-use Rattle.line.specs.Answering.{answered, open-write}
+use Rattle.line.specs.Answering.{answered, opens-write}
 use Rattle.line.proofs.Answered.{kept-told, write-done}
 use Rattle.line.proofs.write.open_on.Statement.{statement}
 use Rattle.line.proofs.write.open_on.Tie as tie
@@ -75,14 +75,14 @@ same-length-3 : tie.Need-same-length-3
 same-length-3 c = search needs
 
 returns : tie.Need-returns
-unfolding open-write
+unfolding opens-write
 returns c =
     let s = c .before .before .before .before .before .before .before .before .before .before .before .before .before .before .before .before .before .before .before in
     let p = s .args .at in
     let v = s .args .values .now in
     let b = s .args .block .now in
     let o = s .args .state .now in
-    c .before .before .before .before .before .before .write-sized .ensures ∙ ap (λ (q : Opening). answered p v b o (open-write q (s .args .m .now) (s .args .row))) (sym (c .before .before .before .before .before .before .before .before .before .before .before .opening .given .1))
+    c .before .before .before .before .before .before .write-sized .ensures ∙ ap (λ (q : Opening). answered p v b o (opens-write q (s .args .m .now) (s .args .row))) (sym (c .before .before .before .before .before .before .before .before .before .before .before .opening .given .1))
 
 same-length-4 : tie.Need-same-length-4
 same-length-4 c = search needs
@@ -94,20 +94,20 @@ same-length-6 : tie.Need-same-length-6
 same-length-6 c = search needs
 
 returns-2 : tie.Need-returns-2
-unfolding open-write
+unfolding opens-write
 returns-2 c =
     let s = c .before .before .before .before .before .before .before .before .before .before .before .before .before .before .before .before .before .before in
     let p = s .args .at in
     let v = s .args .values .now in
     let b = s .args .block .now in
     let o = s .args .state .now in
-    c .before .before .before .before .before .before .write-own .ensures ∙ ap (λ (q : Opening). answered p v b o (open-write q (s .args .m .now) (s .args .row))) (sym (c .before .before .before .before .before .before .before .before .before .before .enum-told .given .1))
+    c .before .before .before .before .before .before .write-own .ensures ∙ ap (λ (q : Opening). answered p v b o (opens-write q (s .args .m .now) (s .args .row))) (sym (c .before .before .before .before .before .before .before .before .before .before .enum-told .given .1))
 
 same-length-7 : tie.Need-same-length-7
 same-length-7 c = search needs
 
 returns-3 : tie.Need-returns-3
-unfolding open-write
+unfolding opens-write
 returns-3 c =
     let s = c .before .before .before .before .before .before .before .before .before .before .before .before .before in
     let p = s .args .at in
@@ -115,20 +115,20 @@ returns-3 c =
     let b = s .args .block .now in
     let o = s .args .state .now in
     let n = c .before .before .before .before .before .opening2 .given .0 .0 in
-    kept-told p v b o (openWriteReply (s .args .row) (announced n)) (write-done (s .args .row) (announced n)) (c .before .before .open-announced .ensures) ∙ ap (λ (q : Opening). answered p v b o (open-write q (s .args .m .now) (s .args .row))) (sym (c .before .before .before .before .before .opening2 .given .1))
+    kept-told p v b o (open-write-reply (s .args .row) (announced n)) (write-done (s .args .row) (announced n)) (c .before .before .open-announced .ensures) ∙ ap (λ (q : Opening). answered p v b o (opens-write q (s .args .m .now) (s .args .row))) (sym (c .before .before .before .before .before .opening2 .given .1))
 
 same-length-8 : tie.Need-same-length-8
 same-length-8 c = search needs
 
 returns-4 : tie.Need-returns-4
-unfolding open-write
+unfolding opens-write
 returns-4 c =
     let s = c .before .before .before .before .before .before .before .before .before .before .before .before in
     let p = s .args .at in
     let v = s .args .values .now in
     let b = s .args .block .now in
     let o = s .args .state .now in
-    kept-told p v b o (openWriteReply (s .args .row) unsaid) (write-done (s .args .row) unsaid) (c .before .before .open-parts .ensures) ∙ ap (λ (q : Opening). answered p v b o (open-write q (s .args .m .now) (s .args .row))) (sym (c .before .before .before .before .enum-told2 .given .1))
+    kept-told p v b o (open-write-reply (s .args .row) unsaid) (write-done (s .args .row) unsaid) (c .before .before .open-parts .ensures) ∙ ap (λ (q : Opening). answered p v b o (opens-write q (s .args .m .now) (s .args .row))) (sym (c .before .before .before .before .enum-told2 .given .1))
 
 pub open-on-spec : {M : Type 1} → statement M
 open-on-spec =

@@ -4,9 +4,9 @@ use borrow.Author.Needs.{needs}
 use Rattle.order.specs.Talk.{refused}
 use Rattle.table.specs.Row.{RO}
 use Rattle.gate.specs.Codes.{read-only}
-use Rattle.sdo.specs.Eight.{answerOf}
+use Rattle.sdo.specs.Eight.{answer-of}
 use Rattle.sdo.specs.Replies.{ending}
-use Rattle.line.specs.Answering.{answered, open-write}
+use Rattle.line.specs.Answering.{answered, opens-write}
 use Rattle.line.proofs.Answered.{told-as}
 use Rattle.line.proofs.Doors.{open-row, open-reply, shut-reply}
 use Rattle.line.proofs.write.open_write.Statement.{statement}
@@ -48,7 +48,7 @@ returns c =
     let v = s .args .values .now in
     let b = s .args .block .now in
     let o = s .args .state .now in
-    c .before .before .before .before .before .before .open-on .ensures ∙ ap (answered p v b o) (open-reply RO read-only (s .args .k) (g .before .before .to-write .ensures .0) (open-write (s .args .opening) (s .args .m .now)) (g .gate .given .0 .0) (g .gate .given .0 .1 .0) (g .gate .given .1))
+    c .before .before .before .before .before .before .open-on .ensures ∙ ap (answered p v b o) (open-reply RO read-only (s .args .k) (g .before .before .to-write .ensures .0) (opens-write (s .args .opening) (s .args .m .now)) (g .gate .given .0 .0) (g .gate .given .0 .1 .0) (g .gate .given .1))
 
 same-length-4 : tie.Need-same-length-4
 same-length-4 c = search needs
@@ -62,7 +62,7 @@ returns-2 c =
     let b = s .args .block .now in
     let o = s .args .state .now in
     let c₁ = g .gate2 .given .0 .0 in
-    told-as p v b o (ending (answerOf (refused (s .args .k) c₁))) refl (c .before .before .refused .ensures) (shut-reply RO read-only (s .args .k) (g .before .before .to-write .ensures .0) (open-write (s .args .opening) (s .args .m .now)) c₁ (g .gate2 .given .1))
+    told-as p v b o (ending (answer-of (refused (s .args .k) c₁))) refl (c .before .before .refused .ensures) (shut-reply RO read-only (s .args .k) (g .before .before .to-write .ensures .0) (opens-write (s .args .opening) (s .args .m .now)) c₁ (g .gate2 .given .1))
 
 pub open-write-spec : {M : Type 1} → statement M
 open-write-spec =

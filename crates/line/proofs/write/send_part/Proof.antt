@@ -3,9 +3,9 @@ use mathlib.Core.Bool.{and-eq-true-iff}
 use mathlib.Core.Path.{refl, ap, _∙_}
 use lib.ListN.{take, drop}
 use borrow.Author.Needs.{needs}
-use Rattle.order.specs.Talk.{wrongToggle}
-use Rattle.sdo.specs.Eight.{answerOf}
-use Rattle.sdo.specs.Replies.{ending, is-writing, sendPartReply}
+use Rattle.order.specs.Talk.{wrong-toggle}
+use Rattle.sdo.specs.Eight.{answer-of}
+use Rattle.sdo.specs.Replies.{ending, is-writing, send-part-reply}
 use Rattle.sdo.specs.declared.Key.{Key}
 use Rattle.sdo.specs.declared.Transfer.{Transfer}
 use Rattle.sdo.proofs.Facts.{said}
@@ -44,7 +44,7 @@ returns c =
     let t = c .before .before .before .before .before .before .before .before .before .before .before .before .before .record-at .result in
     let u = s .args .toggle in
     let bytes = take (s .args .count) (drop 1 (s .args .m .now)) in
-    c .before .before .before .before .before .before .take-part .ensures ∙ ap (answered p v b o) (sent-taken t bytes (s .args .last) u (said (c .before .before .before .before .before .before .before .before .before .before .before .before .writing .ensures) (c .before .before .before .before .before .before .before .before .before .before .before .if1 .taken)) (c .before .before .before .before .before .before .before .before .before .before .if2 .taken) ∙ ap (λ (x : Transfer). sendPartReply x u bytes (s .args .last)) (c .before .before .before .before .before .before .before .before .before .before .before .before .before .record-at .ensures))
+    c .before .before .before .before .before .before .take-part .ensures ∙ ap (answered p v b o) (sent-taken t bytes (s .args .last) u (said (c .before .before .before .before .before .before .before .before .before .before .before .before .writing .ensures) (c .before .before .before .before .before .before .before .before .before .before .before .if1 .taken)) (c .before .before .before .before .before .before .before .before .before .before .if2 .taken) ∙ ap (λ (x : Transfer). send-part-reply x u bytes (s .args .last)) (c .before .before .before .before .before .before .before .before .before .before .before .before .before .record-at .ensures))
 
 key-at-requires : tie.Need-key-at-requires
 key-at-requires c κs = let f = counts-fits (c .before .before .before .before .record-at .result) (and-eq-true-iff (is-writing (c .before .before .before .before .record-at .result .direction)) _ .0 (said (c .before .before .before .writing .ensures) (c .before .before .if1 .taken)) .1) in f .there
@@ -68,7 +68,7 @@ returns-2 c =
     let t = c .before .before .before .before .before .before .before .before .before .record-at .result in
     let u = s .args .toggle in
     let bytes = take (s .args .count) (drop 1 (s .args .m .now)) in
-    told-as p v b o (ending (c .before .before .before .wrong-toggle .result)) refl (c .before .before .ended .ensures) (sent-wrong t bytes (s .args .last) u (said (c .before .before .before .before .before .before .before .before .writing .ensures) (c .before .before .before .before .before .before .before .if1 .taken)) (c .before .before .before .before .before .before .if2 .left) (c .before .before .before .wrong-toggle .ensures ∙ ap (λ (k : Key). answerOf (wrongToggle k)) (c .before .before .before .before .key-at .ensures)) ∙ ap (λ (x : Transfer). sendPartReply x u bytes (s .args .last)) (c .before .before .before .before .before .before .before .before .before .record-at .ensures))
+    told-as p v b o (ending (c .before .before .before .wrong-toggle .result)) refl (c .before .before .ended .ensures) (sent-wrong t bytes (s .args .last) u (said (c .before .before .before .before .before .before .before .before .writing .ensures) (c .before .before .before .before .before .before .before .if1 .taken)) (c .before .before .before .before .before .before .if2 .left) (c .before .before .before .wrong-toggle .ensures ∙ ap (λ (k : Key). answer-of (wrong-toggle k)) (c .before .before .before .before .key-at .ensures)) ∙ ap (λ (x : Transfer). send-part-reply x u bytes (s .args .last)) (c .before .before .before .before .before .before .before .before .before .record-at .ensures))
 
 no-transfer-requires : tie.Need-no-transfer-requires
 no-transfer-requires c κs = search needs
@@ -89,7 +89,7 @@ returns-3 c =
     let t = c .before .before .before .before .before .before .before .record-at .result in
     let u = s .args .toggle in
     let bytes = take (s .args .count) (drop 1 (s .args .m .now)) in
-    told-as p v b o (ending (c .before .before .before .no-transfer .result)) refl (c .before .before .ended2 .ensures) (sent-none t bytes (s .args .last) u (said (c .before .before .before .before .before .before .writing .ensures) (c .before .before .before .before .before .if1 .left)) (c .before .before .before .no-transfer .ensures) ∙ ap (λ (x : Transfer). sendPartReply x u bytes (s .args .last)) (c .before .before .before .before .before .before .before .record-at .ensures))
+    told-as p v b o (ending (c .before .before .before .no-transfer .result)) refl (c .before .before .ended2 .ensures) (sent-none t bytes (s .args .last) u (said (c .before .before .before .before .before .before .writing .ensures) (c .before .before .before .before .before .if1 .left)) (c .before .before .before .no-transfer .ensures) ∙ ap (λ (x : Transfer). send-part-reply x u bytes (s .args .last)) (c .before .before .before .before .before .before .before .record-at .ensures))
 
 pub send-part-spec : {M : Type 1} → statement M
 send-part-spec =

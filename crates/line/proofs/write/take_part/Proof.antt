@@ -6,11 +6,11 @@ use native.Mathlib.Omega.{arith}
 use lib.ListN.{length, take, drop}
 use borrow.Author.Needs.{needs}
 use Rattle.wire.proofs.SpliceLaws.{part-length}
-use Rattle.order.specs.Gauge.{tooLong, tooShort}
-use Rattle.order.specs.Talk.{partTaken}
+use Rattle.order.specs.Gauge.{too-long, too-short}
+use Rattle.order.specs.Talk.{part-taken}
 use Rattle.gauge.specs.Memory.{memory-of}
 use Rattle.gauge.specs.Whole.{commit-row}
-use Rattle.sdo.specs.Eight.{answerOf}
+use Rattle.sdo.specs.Eight.{answer-of}
 use Rattle.sdo.specs.Replies.{refusal, going, grown}
 use Rattle.sdo.specs.declared.Transfer.{Transfer}
 use Rattle.sdo.proofs.ReplyLaws.{taken-long, taken-short, taken-whole, taken-more}
@@ -47,7 +47,7 @@ returns c =
     let long = part-length (s .args .m .now) 1 (s .args .count) (omega (arith, s .pre .1 .0, s .pre .1 .1)) in
     let h = committed-most (t .row) (s .pre .2) (s .pre .3) in
     let over : t .len < t .place + s .args .count = omega (arith, h, c .before .before .before .before .before .if1 .taken) in
-    told-as p v b o (refusal (t .row) tooLong) refl (refused-row p o (t .row) tooLong (c .before .before .before .key-at .ensures) (c .before .before .refused .ensures)) (taken-long t bytes (s .args .last) long over)
+    told-as p v b o (refusal (t .row) too-long) refl (refused-row p o (t .row) too-long (c .before .before .before .key-at .ensures) (c .before .before .refused .ensures)) (taken-long t bytes (s .args .last) long over)
 
 add-if3 : tie.Need-add-if3
 add-if3 c = search needs
@@ -71,7 +71,7 @@ returns-2 c =
     let t = s .args .t in
     let bytes = take (s .args .count) (drop 1 (s .args .m .now)) in
     let long = part-length (s .args .m .now) 1 (s .args .count) (omega (arith, s .pre .1 .0, s .pre .1 .1)) in
-    told-as p v b o (refusal (t .row) tooShort) refl (refused-row p o (t .row) tooShort (c .before .before .before .key-at2 .ensures) (c .before .before .refused2 .ensures)) (taken-short t bytes (s .args .last) long (c .before .before .before .before .before .before .if2 .taken) (c .before .before .before .before .before .if3 .taken))
+    told-as p v b o (refusal (t .row) too-short) refl (refused-row p o (t .row) too-short (c .before .before .before .key-at2 .ensures) (c .before .before .refused2 .ensures)) (taken-short t bytes (s .args .last) long (c .before .before .before .before .before .before .if2 .taken) (c .before .before .before .before .before .if3 .taken))
 
 grown-requires : tie.Need-grown-requires
 grown-requires c κs = let h = committed-most (c .before .before .before .before .before .before .before .before .args .t .row) (c .before .before .before .before .before .before .before .before .pre .2) (c .before .before .before .before .before .before .before .before .pre .3) in search needs
@@ -113,7 +113,7 @@ returns-3 c =
     let full : t .place + s .args .count ≡ t .len = omega (arith, c .before .before .before .before .before .before .before .before .before .before .before .before .before .before .before .before .before .if1 .left, c .before .before .before .before .before .before .before .before .before .before .before .before .before .before .before .if3 .left) in
     let end = c .before .before .before .before .before .before .before .conclude in
     let yes = c .before .before .before .before .before .before .before .before .before .before .before .before .before .before .before .before .before .before .part-taken in
-    committed-told p v b o (answerOf (partTaken (t .toggle))) (grown t bytes)
+    committed-told p v b o (answer-of (part-taken (t .toggle))) (grown t bytes)
     (concluded-told (memory-of v b) (t .row) (yes .result) _ _ p o _ (end .result) (end .ensures .0) (end .ensures .1) (c .answer-by .ensures)
     ∙ ap₂ (λ (e : List ℕ) (g : Transfer). told-by p o (concluded (memory-of v b) (t .row) e (commit-row (t .row) (take (t .len) (g .held)) (memory-of v b)))) (yes .ensures) (c .before .before .before .before .before .before .before .before .before .before .before .before .before .before .grown .ensures))
     ∙ ap (answered p v b o) (taken-whole t bytes (s .args .last) long (c .before .before .before .before .before .before .before .before .before .before .before .before .before .before .before .before .if2 .taken) full)

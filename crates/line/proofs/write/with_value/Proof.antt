@@ -5,12 +5,12 @@ use Prim.Native.Nat.{ℕ, _+_, _-_}
 use native.Mathlib.Omega.{arith}
 use lib.ListN.{length, take, drop}
 use Rattle.wire.proofs.SpliceLaws.{part-length}
-use Rattle.order.specs.Talk.{writeOpened}
+use Rattle.order.specs.Talk.{write-opened}
 use Rattle.gauge.specs.Memory.{memory-of}
 use Rattle.gauge.specs.Whole.{commit-row}
-use Rattle.sdo.specs.Eight.{answerOf}
-use Rattle.sdo.specs.Records.{keyAt}
-use Rattle.sdo.specs.Replies.{openedRecord, filled}
+use Rattle.sdo.specs.Eight.{answer-of}
+use Rattle.sdo.specs.Records.{key-at}
+use Rattle.sdo.specs.Replies.{opened-record, filled}
 use Rattle.sdo.specs.declared.Direction.the-variants.{Writes}
 use Rattle.sdo.specs.declared.Key.{Key}
 use Rattle.sdo.proofs.ReplyLaws.{filled-value}
@@ -66,9 +66,9 @@ returns c =
     let whole : 4 + n - 4 ≡ n = omega arith in
     let end = c .before .before .before .before .before .before .before .before .conclude in
     let yes = c .before .write-opened in
-    committed-told p v b o (answerOf (writeOpened (keyAt row))) (openedRecord Writes row (filled bytes) n)
+    committed-told p v b o (answer-of (write-opened (key-at row))) (opened-record Writes row (filled bytes) n)
     (concluded-told (memory-of v b) row (yes .result) _ _ p o _ (end .result) (end .ensures .0) (end .ensures .1) (c .answer-by .ensures)
-    ∙ ap₂ (λ (e bs : List ℕ). told-by p o (concluded (memory-of v b) row e (commit-row row bs (memory-of v b)))) (yes .ensures ∙ ap (λ (k : Key). answerOf (writeOpened k)) (s .pre .1 .1)) (ap (λ (j : ℕ). take j (drop 4 m)) whole ∙ sym (filled-value bytes n long)))
+    ∙ ap₂ (λ (e bs : List ℕ). told-by p o (concluded (memory-of v b) row e (commit-row row bs (memory-of v b)))) (yes .ensures ∙ ap (λ (k : Key). answer-of (write-opened k)) (s .pre .1 .1)) (ap (λ (j : ℕ). take j (drop 4 m)) whole ∙ sym (filled-value bytes n long)))
 
 pub with-value-spec : {M : Type 1} → statement M
 with-value-spec =

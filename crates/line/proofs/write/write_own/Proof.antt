@@ -2,7 +2,7 @@
 use mathlib.Core.Path.{refl, sym, ap, _∙_}
 use native.Mathlib.Omega.{arith}
 use borrow.Author.Needs.{needs}
-use Rattle.order.specs.Gauge.{tooShort}
+use Rattle.order.specs.Gauge.{too-short}
 use Rattle.sdo.specs.Replies.{refusal}
 use Rattle.sdo.proofs.ReplyLaws.{own-short, own-right}
 use Rattle.line.specs.Answering.{answered}
@@ -23,7 +23,7 @@ returns c =
     let v = s .args .values .now in
     let b = s .args .block .now in
     let o = s .args .state .now in
-    told-as p v b o (refusal (s .args .row) tooShort) refl (refused-row p o (s .args .row) tooShort (s .pre .1 .1) (c .before .before .refused .ensures)) (sym (own-short (s .args .row) (s .args .m .now) (s .pre .3) (omega (arith, s .pre .2))))
+    told-as p v b o (refusal (s .args .row) too-short) refl (refused-row p o (s .args .row) too-short (s .pre .1 .1) (c .before .before .refused .ensures)) (sym (own-short (s .args .row) (s .args .m .now) (s .pre .3) (omega (arith, s .pre .2))))
 
 with-value-requires : tie.Need-with-value-requires
 with-value-requires c κs = search needs

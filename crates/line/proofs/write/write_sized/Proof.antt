@@ -4,8 +4,8 @@ use Prim.Native.Nat.{ℕ}
 use native.Mathlib.Omega.{arith}
 use lib.ListN.{take, drop}
 use borrow.Author.Needs.{needs}
-use Rattle.order.specs.Gauge.{tooLong, tooShort}
-use Rattle.sdo.specs.Replies.{refusal, valueReply}
+use Rattle.order.specs.Gauge.{too-long, too-short}
+use Rattle.sdo.specs.Replies.{refusal, value-reply}
 use Rattle.sdo.proofs.ReplyLaws.{sized-long, sized-short, sized-right}
 use Rattle.line.specs.Answering.{answered}
 use Rattle.line.proofs.Answered.{refused-row, told-as}
@@ -25,7 +25,7 @@ returns c =
     let v = s .args .values .now in
     let b = s .args .block .now in
     let o = s .args .state .now in
-    told-as p v b o (refusal (s .args .row) tooLong) refl (refused-row p o (s .args .row) tooLong (s .pre .1 .1) (c .before .before .refused .ensures)) (sym (sized-long (s .args .row) (s .args .count) (take (s .args .count) (drop 4 (s .args .m .now))) (omega (arith, s .pre .2))))
+    told-as p v b o (refusal (s .args .row) too-long) refl (refused-row p o (s .args .row) too-long (s .pre .1 .1) (c .before .before .refused .ensures)) (sym (sized-long (s .args .row) (s .args .count) (take (s .args .count) (drop 4 (s .args .m .now))) (omega (arith, s .pre .2))))
 
 refused-requires-2 : tie.Need-refused-requires-2
 refused-requires-2 c κs = search needs
@@ -40,7 +40,7 @@ returns-2 c =
     let v = s .args .values .now in
     let b = s .args .block .now in
     let o = s .args .state .now in
-    told-as p v b o (refusal (s .args .row) tooShort) refl (refused-row p o (s .args .row) tooShort (s .pre .1 .1) (c .before .before .refused2 .ensures)) (sym (sized-short (s .args .row) (s .args .count) (take (s .args .count) (drop 4 (s .args .m .now))) (omega (arith, s .pre .2))))
+    told-as p v b o (refusal (s .args .row) too-short) refl (refused-row p o (s .args .row) too-short (s .pre .1 .1) (c .before .before .refused2 .ensures)) (sym (sized-short (s .args .row) (s .args .count) (take (s .args .count) (drop 4 (s .args .m .now))) (omega (arith, s .pre .2))))
 
 with-value-requires : tie.Need-with-value-requires
 with-value-requires c κs = search needs
@@ -62,7 +62,7 @@ returns-3 c =
     let b = s .args .block .now in
     let o = s .args .state .now in
     let same : s .args .count ≡ s .args .len = omega (arith, s .pre .2) in
-    c .before .before .before .before .before .before .with-value .ensures ∙ ap (λ (n : ℕ). answered p v b o (valueReply (s .args .row) n (s .args .m .now))) (sym same) ∙ ap (answered p v b o) (sym (sized-right (s .args .row) (s .args .m .now) (s .pre .3) (s .args .count) (same ∙ s .pre .2) (s .pre .4)))
+    c .before .before .before .before .before .before .with-value .ensures ∙ ap (λ (n : ℕ). answered p v b o (value-reply (s .args .row) n (s .args .m .now))) (sym same) ∙ ap (answered p v b o) (sym (sized-right (s .args .row) (s .args .m .now) (s .pre .3) (s .args .count) (same ∙ s .pre .2) (s .pre .4)))
 
 pub write-sized-spec : {M : Type 1} → statement M
 write-sized-spec =

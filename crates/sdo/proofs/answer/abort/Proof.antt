@@ -1,5 +1,5 @@
 -- `abort` meets its contract: the definition computes to the eight bytes.
-use Rattle.sdo.specs.Eight.{answerOf}
+use Rattle.sdo.specs.Eight.{answer-of}
 use borrow.Author.Needs.{needs}
 use Rattle.sdo.proofs.answer.abort.Statement.{statement}
 use Rattle.sdo.proofs.answer.abort.Tie as tie
@@ -23,7 +23,7 @@ cast-t17 : tie.Need-cast-t17
 cast-t17 c = search needs
 
 returns : tie.Need-returns
-unfolding answerOf
+unfolding answer-of
 returns c = search needs
 
 pub abort-spec : {M : Type 1} → statement M

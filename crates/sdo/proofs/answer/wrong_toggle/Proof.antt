@@ -1,5 +1,5 @@
 -- `wrong_toggle` meets its contract: it is the abort with the code 05030000.
-use Rattle.sdo.specs.Eight.{answerOf}
+use Rattle.sdo.specs.Eight.{answer-of}
 use borrow.Author.Needs.{needs}
 use Rattle.sdo.proofs.answer.wrong_toggle.Statement.{statement}
 use Rattle.sdo.proofs.answer.wrong_toggle.Tie as tie
@@ -8,7 +8,7 @@ abort-requires : tie.Need-abort-requires
 abort-requires c κs = search needs
 
 returns : tie.Need-returns
-unfolding answerOf
+unfolding answer-of
 returns c = c .abort .ensures
 
 pub wrong-toggle-spec : {M : Type 1} → statement M
