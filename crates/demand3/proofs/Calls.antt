@@ -147,11 +147,11 @@ module _ (s : List ℕ) (n : length s ≡ 256) (line : ℕ) (h : line ≤ 1) (ne
   settled-long true = dropped-long s n
   settled-long false = put-long s n next w small (record-place line) (place-most line h)
 
-at-line : (a : Arrays) (line : ℕ) → line ≤ 1 → record-at (a .state) (record-place line) ≡ at-line (board-in a .records) (line-of line)
+record-of-line : (a : Arrays) (line : ℕ) → line ≤ 1 → record-at (a .state) (record-place line) ≡ at-line (board-in a .records) (line-of line)
 unfolding record-place line-of
-at-line a zero h = refl
-at-line a (suc zero) h = refl
-at-line a (suc (suc n)) h = absurd (omega arith)
+record-of-line a zero h = refl
+record-of-line a (suc zero) h = refl
+record-of-line a (suc (suc n)) h = absurd (omega arith)
 
 whole-at : (s : List ℕ) (at : ℕ) → length s ≡ 256 → at + 70 ≤ 256 → Whole (record-at s at)
 unfolding record-at
@@ -193,7 +193,7 @@ module _ (a : Arrays) (ok : Lent a) (line : ℕ) (on-line : line ≤ 1) (m : Lis
   message-follows : record-call bag552 (board-in a) (heard (line-of line) m) ≡ (board-in after, said .bytes)
   unfolding record-call
   message-follows =
-      ap (λ (t : Transfer). (record { store = (speak bag552 (store-in a) t m) .store; records = records-after bag552 (board-in a .records) (line-of line) (speak bag552 (store-in a) t m) }, (speak bag552 (store-in a) t m) .bytes)) (sym (at-line a line on-line))
+      ap (λ (t : Transfer). (record { store = (speak bag552 (store-in a) t m) .store; records = records-after bag552 (board-in a .records) (line-of line) (speak bag552 (store-in a) t m) }, (speak bag552 (store-in a) t m) .bytes)) (sym (record-of-line a line on-line))
       ∙ ap (λ (b : RecordBoard bag552). (b, said .bytes))
       (boards-same store-after (sym (settled-records a line (said .next) (said .reset) on-line (ok .state-is) next-long next-small)))
 
