@@ -7,12 +7,14 @@ use lib.Dec.{ltb}
 use lib.ListN.{length, take}
 use Rattle.order.specs.Talk.{Said, announced, unsaid, own, Read, value, denied, Sizes, sizes, closed, Outcome, stored, restarted, declined, Result, gave, yes!, code, taken}
 
--- A gauge, entry by entry. `read-whole` judges index, subindex and access and gives the value. `write-sizes` is what the table says of
--- writing the entry; it has no store among its arguments. `commit` is given bytes of an allowed length: lock, limits, then the write with its
+-- A gauge, entry by entry; `name-of` is what answers tell of a key. `read-whole` judges index, subindex and access and gives the value. `write-sizes` is
+-- what the table says of writing the entry; it has no store among its arguments. `commit` is given bytes of an allowed length: lock, limits, then the write with its
 -- effects. `sampled` is the store after a sample
 pub record Gauge : Type 1 where
   pub Store : Type 0
   pub Key : Type 0
+  pub Name : Type 0
+  pub name-of : Key → Name
   pub Sample : Type 0
   pub read-whole : Store → Key → Read
   pub write-sizes : Key → Sizes
@@ -26,9 +28,14 @@ too-long = 0x06070012
 abbrev pub too-short : ℕ
 too-short = 0x06070013
 
--- the length announced or meant, held against the table's smallest and largest (R7.8)
+-- a length held against the smallest and the largest: refused with a code, or let through
+unfoldable pub by-length : {A : Type 0} → ℕ → ℕ → ℕ → (ℕ → A) → A → A
+by-length low high n refuse pass = cond (ltb high n) (refuse too-long) (cond (ltb n low) (refuse too-short) pass)
+
+-- the length announced or meant (R7.8)
 unfoldable pub narrowed : ℕ → ℕ → Said → Sizes
-narrowed low high (announced n) = cond (ltb high n) (closed too-long) (cond (ltb n low) (closed too-short) (sizes n n))
+unfolding by-length
+narrowed low high (announced n) = by-length low high n closed (sizes n n)
 narrowed low high unsaid = sizes low high
 narrowed low high own = sizes high high
 
@@ -51,7 +58,8 @@ say (some n) = announced n
 module _ (P : Gauge) where
   -- lengths first, then lock and limits (R7.5 to R7.7)
   unfoldable pub judged : P .Store → P .Key → ℕ → ℕ → List ℕ → Outcome (P .Store)
-  judged g k low high bytes = cond (ltb high (length bytes)) (declined too-long) (cond (ltb (length bytes) low) (declined too-short) (P .commit g k bytes))
+  unfolding by-length
+  judged g k low high bytes = by-length low high (length bytes) declined (P .commit g k bytes)
 
   unfoldable pub judged-by : P .Store → P .Key → Said → List ℕ → Sizes → Outcome (P .Store)
   unfolding judged counted

@@ -1,5 +1,5 @@
 -- RULE: what is said on a line, freed of its bytes: requests, answers, what a whole read or write comes to, and what a line holds.
--- `K` is the type of keys: what names an entry.
+-- `K` is the type of keys: what names an entry. Answers are over `N`, the names that a client reads in them.
 use Prim.Native.Nat.{ℕ}
 use mathlib.Core.Bool.{Bool}
 use mathlib.Core.List.{List}
@@ -22,18 +22,18 @@ pub data Request (K : Type 0) : Type 0 where
   give-up : Request K
   unknown : Request K
 
--- `opened` answers the opening of a read: key, length, the bytes that it carries, whether these are all. `part-given` is a part
--- of a read, `write-opened` is 60 and `part-taken` 20 or 30. `refused` gives a code from 06020000 on. The two codes before it, which
--- only drop a transfer (R15.5), are `wrong-toggle` (05030000) and `no-transfer` (05040001). `silent`: no answer
-pub data Answer (K : Type 0) : Type 0 where
-  opened : K → ℕ → List ℕ → Bool → Answer K
-  part-given : Bool → List ℕ → Bool → Answer K
-  write-opened : K → Answer K
-  part-taken : Bool → Answer K
-  refused : K → ℕ → Answer K
-  wrong-toggle : K → Answer K
-  no-transfer : Answer K
-  silent : Answer K
+-- `opened` answers the opening of a read: name, length, the bytes that it carries, whether these are all. `part-given` is a part
+-- of a read, `write-opened` is 60 and `part-taken` 20 or 30. `refused` gives a code from 06020000 on. A code before it only drops a
+-- transfer (R15.5): `dropped` tells it with the transfer's name, `no-transfer` is 05040001, which has none. `silent`: no answer
+pub data Answer (N : Type 0) : Type 0 where
+  opened : N → ℕ → List ℕ → Bool → Answer N
+  part-given : Bool → List ℕ → Bool → Answer N
+  write-opened : N → Answer N
+  part-taken : Bool → Answer N
+  refused : N → ℕ → Answer N
+  dropped : N → ℕ → Answer N
+  no-transfer : Answer N
+  silent : Answer N
 
 -- a whole read: the value, or a code
 pub data Read : Type 0 where
