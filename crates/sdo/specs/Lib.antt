@@ -1,4 +1,2 @@
 pub mod Eight
 pub mod Lines
-pub mod Records
-pub mod Replies

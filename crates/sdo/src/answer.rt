@@ -5,9 +5,8 @@ ghost use mathlib.Core.List.{[]};
 ghost use mathlib.Core.Path.{_≡_};
 ghost use Prim.Native.Nat.{_+_, _-_, _*_, _≤_, _<_};
 ghost use lib.ListN.{length, take, drop, getD};
-ghost use Rattle.order.specs.Talk.{opened, part-given, write-opened, part-taken, refused, wrong-toggle, no-transfer};
-ghost use Rattle.sdo.specs.Eight.{one, answer-of};
-ghost use Rattle.sdo.specs.Lines.{short};
+ghost use Rattle.order.specs.Talk.{opened, part-given, write-opened, part-taken, refused, no-transfer};
+ghost use Rattle.sdo.specs.Eight.{one, answer-of, short};
 
 pub fn abort(k: Key, code: u32) -> [u8; 8]
     ensures { λ r. ⌜ r ≡ answer-of (refused k code) ⌝ }
@@ -25,12 +24,6 @@ pub fn abort(k: Key, code: u32) -> [u8; 8]
         (third % 256) as u8,
         (fourth % 256) as u8,
     ]
-}
-
-pub fn wrong_toggle(k: Key) -> [u8; 8]
-    ensures { λ r. ⌜ r ≡ answer-of (wrong-toggle k) ⌝ }
-{
-    abort(k, 0x05030000)
 }
 
 pub fn no_transfer() -> [u8; 8]

@@ -1,4 +1,5 @@
 // What a message says.
+use crate::Heard;
 use crate::Key;
 use crate::Message;
 use crate::Opening;
@@ -6,11 +7,11 @@ use wire::wide;
 ghost use mathlib.Core.Path.{_≡_};
 ghost use Prim.Native.Nat.{_≤_};
 ghost use lib.ListN.{length};
-ghost use Rattle.sdo.specs.Eight.{bit, key-of, opening-of, message-of};
+ghost use Rattle.sdo.specs.Eight.{has, key-of, opening-of, heard-of};
 
 pub fn bit_of(weight: u8, b: u8) -> bool
     requires { ⌜ 1 ≤ weight ⌝ }
-    ensures { λ r. ⌜ r ≡ bit weight b ⌝ }
+    ensures { λ r. ⌜ r ≡ has weight b ⌝ }
 {
     b / weight % 2 == 1
 }
@@ -45,23 +46,23 @@ pub fn opening_of(m: &[u8]) -> Opening
     Opening::Unsaid
 }
 
-pub fn message_of(m: &[u8]) -> Message
+pub fn heard_of(m: &[u8]) -> Heard
     requires { ⌜ length (now m) ≡ 8 ⌝ }
-    ensures { λ r. ⌜ r ≡ message-of (now (m .entry)) ⌝ }
+    ensures { λ r. ⌜ r ≡ heard-of (now (m .entry)) ⌝ }
 {
     let first = m[0];
     let specifier = first / 32;
     match specifier {
-        0 => Message::SendPart(
+        0 => Heard::Asks(Message::SendPart(
             bit_of(16, first),
             7 - wide::to_usize(first / 2 % 8),
             bit_of(1, first),
-        ),
-        1 => Message::OpenWrite(key_of(m), opening_of(m)),
-        2 => Message::OpenRead(key_of(m)),
-        3 => Message::NextPart(bit_of(16, first)),
-        4 => Message::GiveUp,
-        5..=7 => Message::Unknown,
-        _ => Message::Unknown,
+        )),
+        1 => Heard::Asks(Message::OpenWrite(key_of(m), opening_of(m))),
+        2 => Heard::Asks(Message::OpenRead(key_of(m))),
+        3 => Heard::Asks(Message::NextPart(bit_of(16, first))),
+        4 => Heard::GiveUp,
+        5..=7 => Heard::Asks(Message::Unknown),
+        _ => Heard::Asks(Message::Unknown),
     }
 }

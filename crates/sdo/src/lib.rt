@@ -1,7 +1,6 @@
-// The eight bytes of a message and of an answer, and the transfer that a line holds, all by value.
+// The eight bytes of a message and of an answer.
 pub mod answer;
 pub mod decode;
-pub mod record;
 
 // An entry's name: index and subindex.
 pub struct Key {
@@ -18,29 +17,18 @@ pub enum Opening {
     Unsaid,
 }
 
-// What a message says. The bytes of a write stay in the message; their count stands here.
+// A message that asks for an answer. The bytes of a write stay in the message; their count stands here.
 pub enum Message {
     // toggle, count of bytes, last
     SendPart(bool, usize, bool),
     OpenWrite(Key, Opening),
     OpenRead(Key),
     NextPart(bool),
-    GiveUp,
     Unknown,
 }
 
-pub enum Direction {
-    Neither,
-    Reads,
-    Writes,
-}
-
-// A line's transfer. Of a read held begins with the value, of a write with the bytes sent; place is the count of bytes given or sent.
-pub struct Transfer {
-    pub held: [u8; 64],
-    pub row: usize,
-    pub direction: Direction,
-    pub len: usize,
-    pub place: usize,
-    pub toggle: bool,
+// What is heard: the client's abort, which has no answer, or a message that asks for one.
+pub enum Heard {
+    GiveUp,
+    Asks(Message),
 }

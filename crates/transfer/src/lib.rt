@@ -1,14 +1,28 @@
 // A line's transfer by value: whether it counts, and the record after an opening or a part.
-use crate::Direction;
-use crate::Key;
-use crate::Transfer;
+use sdo::Key;
 ghost use mathlib.Core.Bool.{_&&_};
 ghost use mathlib.Core.Path.{_≡_};
 ghost use Prim.Native.Nat.{_+_, _≤_, _<_};
 ghost use lib.ListN.{length, take, drop};
 ghost use Rattle.table.specs.Rows.{row-count};
-ghost use Rattle.sdo.specs.Records.{key-at, allows, fitting, counts};
-ghost use Rattle.sdo.specs.Replies.{is-reading, is-writing, opened-record, turned, grown};
+ghost use Rattle.transfer.specs.Records.{key-at, allows, fitting, counts};
+ghost use Rattle.transfer.specs.Turns.{is-reading, is-writing, opened-record, turned, grown};
+
+pub enum Direction {
+    Neither,
+    Reads,
+    Writes,
+}
+
+// Of a read held begins with the value, of a write with the bytes sent; place is the count of bytes given or sent.
+pub struct Transfer {
+    pub held: [u8; 64],
+    pub row: usize,
+    pub direction: Direction,
+    pub len: usize,
+    pub place: usize,
+    pub toggle: bool,
+}
 
 pub fn key_at(row: usize) -> Key
     requires { ⌜ row < row-count ⌝ }
@@ -83,10 +97,10 @@ pub fn opened(direction: Direction, row: usize, held: [u8; 64], len: usize) -> T
     }
 }
 
-// After a part of a read that was not the last.
-pub fn turned(t: Transfer) -> Transfer
-    requires { ⌜ t .place ≤ 64 ⌝ }
-    ensures { λ r. ⌜ r ≡ turned t ⌝ }
+// After a part of a read that was not the last, of some size.
+pub fn turned(t: Transfer, size: usize) -> Transfer
+    requires { ⌜ (t .place ≤ 64) × (size ≤ 256) ⌝ }
+    ensures { λ r. ⌜ r ≡ turned t size ⌝ }
 {
     let held = t.held;
     let row = t.row;
@@ -98,22 +112,22 @@ pub fn turned(t: Transfer) -> Transfer
         row,
         direction: Direction::Reads,
         len,
-        place: place + 7,
+        place: place + size,
         toggle: !toggle,
     }
 }
 
-// With the part of a write that is count bytes of message m, from its byte 1 on.
-pub fn grown(t: Transfer, m: &[u8], count: usize) -> Transfer
-    requires { ⌜ ((length (now m) ≡ 8) × (count ≤ 7)) × ((t .len ≤ 64) × (t .place + count ≤ t .len)) ⌝ }
-    ensures { λ r. ⌜ r ≡ grown t (take count (drop 1 (now (m .entry)))) ⌝ }
+// With the part of a write that is count bytes of m, from a byte on.
+pub fn grown(t: Transfer, m: &[u8], from: usize, count: usize) -> Transfer
+    requires { ⌜ (from + count ≤ length (now m)) × ((t .len ≤ 64) × (t .place + count ≤ t .len)) ⌝ }
+    ensures { λ r. ⌜ r ≡ grown t (take count (drop from (now (m .entry)))) ⌝ }
 {
     let mut held = t.held;
     let row = t.row;
     let len = t.len;
     let place = t.place;
     let toggle = t.toggle;
-    wire::copy_at(&mut held, place, m, 1, count);
+    wire::copy_at(&mut held, place, m, from, count);
     Transfer {
         held,
         row,
