@@ -1,6 +1,6 @@
 -- RULE: one line's serving, and the board: a store and what each line holds.
 use Prim.Native.Nat.{ℕ, _+_, _≤_}
-use mathlib.Core.Path.{_≡_}
+use mathlib.Core.Path.{_≡_, refl}
 use mathlib.Core.Logic.{_≢_}
 use mathlib.Core.Bool.{Bool, true, false, cond, not, Bool·beq}
 use mathlib.Core.List.{List, [], _∷_, _++_}
@@ -45,6 +45,38 @@ pub record Wires (X : Type 0) (x₀ : X) : Type 1 where
   pub at-same : (ls : Lines) (l : Line) (x : X) → at (with ls l x) l ≡ x
   pub at-other : (ls : Lines) (l m : Line) (x : X) → m ≢ l → at (with ls l x) m ≡ at ls m
   pub at-clear : (l : Line) → at clear l ≡ x₀
+
+-- lines that are functions: what stands at a line is looked up
+module _ {L X : Type 0} (same : (l m : L) → Dec (l ≡ m)) where
+  pub put-same : (f : L → X) (l : L) (x : X) → put-at same f l x l ≡ x
+  unfolding put-at
+  put-same f l x = go (same l l)
+    where
+      go : (d : Dec (l ≡ l)) → if-same d x (f l) ≡ x
+      go (yes e) = refl
+      go (no e) = absurd (e refl)
+
+  pub put-other : (f : L → X) (l m : L) (x : X) → m ≢ l → put-at same f l x m ≡ f m
+  unfolding put-at
+  put-other f l m x e = go (same m l)
+    where
+      go : (d : Dec (m ≡ l)) → if-same d x (f m) ≡ f m
+      go (yes e′) = absurd (e e′)
+      go (no e′) = refl
+
+  abbrev pub by-line : (x₀ : X) → Wires X x₀
+  by-line x₀ =
+      record {
+        Line = L;
+        Lines = L → X;
+        same = same;
+        at = λ f l. f l;
+        with = put-at same;
+        clear = λ l. x₀;
+        at-same = put-same;
+        at-other = put-other;
+        at-clear = λ l. refl;
+      }
 
 -- a gauge, its lines and how each of them speaks
 pub record Setup : Type 1 where
