@@ -7,11 +7,11 @@ use mathlib.Core.Bool.{Bool, true, false, cond, not, Bool·beq, false≢true}
 use mathlib.Core.List.{List, [], _∷_, _++_}
 use mathlib.Core.Option.{Option, none, some}
 use lib.Dec.{T, ltb, leb, leb→le, nleb→lt}
-use lib.ListN.{length, take}
+use lib.ListN.{length, take, drop}
 use lib.Seq.{take-add, take-all}
-use Rattle.order.specs.Talk.{Request, open-read, next-part, expedited, open-write, send-part, give-up, unknown, Answer, write-opened, part-taken, dropped, Read, value, denied, Sizes, sizes, closed, Outcome, stored, restarted, declined, Pending, idle, reading, writing, refused, no-transfer, silent}
-use Rattle.order.specs.Gauge.{Gauge, too-long, say, judged, allowed, write-whole}
-use Rattle.order.specs.Serve.{Form, Wires, if-same, Setup, toggle-code, After, kept, wiped, left, Reply, over, read-opening, give-part, read-part, take-more, write-opening, Served, keeping, conclude, take-part, write-part, serve, Board, Event, message, sample, leave, step, trace}
+use Rattle.order.specs.Talk.{Request, open-read, next-part, expedited, open-write, send-part, give-up, unknown, Answer, part-given, write-opened, part-taken, dropped, Read, value, denied, Sizes, sizes, closed, Outcome, stored, restarted, declined, Pending, idle, reading, writing}
+use Rattle.order.specs.Gauge.{Gauge, say, judged, allowed, write-whole}
+use Rattle.order.specs.Serve.{Form, Wires, if-same, Setup, toggle-code, After, kept, wiped, left, Reply, over, onwards, read-opening, give-part, read-part, take-more, write-opening, Served, keeping, conclude, take-part, serve, Board, Event, message, sample, leave, step, trace}
 use Rattle.order.specs.Observe.{gain, if-yes, onward, follow}
 use Rattle.order.specs.Promise.{ends-write, is-abort, If-same, Spares, Right, count, Calm, Ends}
 use Rattle.order.proofs.Serial.{by-cond, own-line}
@@ -62,25 +62,21 @@ module _ (P : Gauge) where
   abbrev Ended : Reply P → Type 0
   Ended r = is-abort (r .answer) ≡ true → r .next ≡ idle
 
-  ended-cond : (d : Bool) (r r′ : Reply P) → Ended r → Ended r′ → Ended (cond d r r′)
-  ended-cond true r r′ p q = p
-  ended-cond false r r′ p q = q
-
   ended-read-opening : (form : Form) (k : P .Key) (r : Read) → Ended (read-opening P form k r)
   unfolding read-opening is-abort
-  ended-read-opening form k (value bytes) = ended-cond (form .closes (length bytes)) _ _ not-both not-both
+  ended-read-opening form k (value bytes) = by-cond Ended (form .closes (length bytes)) _ _ (λ _. not-both) (λ _. not-both)
   ended-read-opening form k (denied c) = λ e. refl
 
   ended-read-part : (form : Form) (x : Pending (P .Key)) (u : Bool) → Ended (read-part P form x u)
   unfolding read-part is-abort
   ended-read-part form idle u = λ e. refl
   ended-read-part form (reading k bytes p t) u =
-      ended-cond (Bool·beq t u) (give-part P form k bytes p t) _ (ended-cond (leb (length bytes) (p + form .size)) _ _ not-both not-both) (λ e. refl)
+      by-cond Ended (Bool·beq t u) (give-part P form k bytes p t) (over P (dropped (P .name-of k) toggle-code)) (λ _. by-cond Ended (leb (length bytes) (p + form .size)) _ _ (λ _. not-both) (λ _. not-both)) (λ _ e. refl)
   ended-read-part form (writing k low high sent t) u = λ e. refl
 
   ended-more : (k : P .Key) (low high : ℕ) (all : List ℕ) (t : Bool) (y : Answer (P .Name)) → is-abort y ≡ false → Ended (take-more P k low high all t y)
   unfolding take-more
-  ended-more k low high all t y n = ended-cond (ltb high (length all)) _ _ (λ e. refl) (λ e. not-both (sym n ∙ e))
+  ended-more k low high all t y n = by-cond Ended (ltb high (length all)) _ _ (λ _ e. refl) (λ _ e. not-both (sym n ∙ e))
 
   ended-write-opening : (k : P .Key) (bytes : List ℕ) (z : Sizes) → Ended (write-opening P k bytes z)
   unfolding write-opening is-abort
@@ -93,10 +89,6 @@ module _ (P : Gauge) where
 
   dropped-reply : (g : P .Store) (r : Reply P) → Ended r → Dropped g (keeping P g r)
   dropped-reply g r h e = ap (λ (x : Pending (P .Key)). record { store = g; after = kept x; answer = r .answer }) (h e)
-
-  dropped-cond : {g : P .Store} (d : Bool) (s s′ : Served P) → Dropped g s → Dropped g s′ → Dropped g (cond d s s′)
-  dropped-cond true s s′ p q = p
-  dropped-cond false s s′ p q = q
 
   dropped-conclude : (g : P .Store) (k : P .Key) (y : Answer (P .Name)) (r : Outcome (P .Store)) → is-abort y ≡ false → Dropped g (conclude P g k y r)
   unfolding conclude
@@ -119,7 +111,7 @@ module _ (P : Gauge) where
   aborts-drop form g idle (send-part u bytes last) = λ e. refl
   aborts-drop form g (reading k held p t) (send-part u bytes last) = λ e. refl
   aborts-drop form g (writing k low high sent t) (send-part u bytes last) =
-      dropped-cond (Bool·beq t u) (take-part P g k low high (sent ++ bytes) (not t) last (part-taken t)) _ (dropped-part g k low high (sent ++ bytes) (not t) last (part-taken t) refl) (λ e. refl)
+      by-cond (Dropped g) (Bool·beq t u) _ _ (λ _. dropped-part g k low high (sent ++ bytes) (not t) last (part-taken t) refl) (λ _ e. refl)
   aborts-drop form g x give-up = λ e. refl
   aborts-drop form g x unknown = λ e. refl
 
@@ -176,9 +168,16 @@ module _ (S : Setup) (l : S .wires .Line) (k : S .gauge .Key) (bytes : List ℕ)
       tell-is : (u : Answer (P .Name)) → a ≡ next-part t → s .answer ≡ u → onward (gain a (s .answer)) (take p bytes) f ≡ onward (gain {K = P .Key} (next-part t) u) (take p bytes) f
       tell-is u ea e = ap₂ (λ (y : Request (P .Key)) (z : Answer (P .Name)). onward (gain y z) (take p bytes) f) ea e
 
+      -- the next part: it is the last, or the read goes on with the other toggle
+      last-one : Reply P
+      last-one = over P (part-given t (take n (drop p bytes)) true)
+
+      one-more : Reply P
+      one-more = onwards P (reading k bytes (p + n) (not t)) (part-given t (take n (drop p bytes)) false)
+
       mine : (e : l ≡ m) → a ≡ next-part t → Right S l es (not t) → Ih → Goal (yes e)
       mine e ea r′ ih =
-          (by-cond (λ (r : Reply P). s ≡ keeping P (b .store) r → Goal (yes e)) (leb (length bytes) (p + n)) _ _
+          by-cond (λ (r : Reply P). s ≡ keeping P (b .store) r → Goal (yes e)) (leb (length bytes) (p + n)) last-one one-more
           (λ ed es′.
           let q : length bytes ≤ p + n = leb→le (length bytes) (p + n) (subst T (sym ed) tt) in (
             (λ _. tell-is _ ea (ap (λ (y : Served P). y .answer) es′) ∙ ap some (sym (take-add p n bytes) ∙ take-all (p + n) bytes q)),
@@ -189,7 +188,7 @@ module _ (S : Setup) (l : S .wires .Line) (k : S .gauge .Key) (bytes : List ℕ)
           let x′ : W .at (b′ .lines) l ≡ reading k bytes (p + n) (not t) = ap (W .at (b′ .lines)) e ∙ own-line S (b .lines) m (s .after) ∙ ap (λ (y : Served P). left (y .after)) es′ in
           let i : Ends S l bytes (p + n) b′ es = ih (p + n) (not t) x′ q r′ in
           let on : onward (gain a (s .answer)) (take p bytes) f ≡ f (take (p + n) bytes) = tell-is _ ea (ap (λ (y : Served P). y .answer) es′) ∙ ap f (sym (take-add p n bytes)) in
-          ((λ z. on ∙ i .at-last (omega arith)), λ z. on ∙ i .not-before (omega arith))))
+          ((λ z. on ∙ i .at-last (omega arith)), λ z. on ∙ i .not-before (omega arith)))
           (s-is e ea)
 
       go : (d : Dec (l ≡ m)) → If-same d ((a ≡ next-part t) × Right S l es (not t)) (Right S l es t) → Ih → Goal d

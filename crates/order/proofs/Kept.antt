@@ -4,16 +4,15 @@ use native.Mathlib.Omega.{arith}
 use mathlib.Core.Path.{_≡_, refl, sym, ap, ap₂, _∙_, subst}
 use mathlib.Core.Bool.{Bool, true, false, cond, false≢true}
 use mathlib.Core.List.{List, [], _∷_, map}
-use mathlib.Core.Option.{Option}
 use lib.Dec.{T}
 use lib.ListN.{length, take}
 use Rattle.order.specs.Talk.{Request, open-read, Answer, Read, value, Pending, idle, reading}
 use Rattle.order.specs.Gauge.{Gauge}
-use Rattle.order.specs.Serve.{Form, Speech, if-same, put-at, Setup, After, kept, wiped, left, Reply, read-opening, Served, keeping, serve, Board, served-on, leave, step, trace}
+use Rattle.order.specs.Serve.{Form, Speech, if-same, put-at, Setup, After, kept, wiped, left, Reply, read-opening, Served, serve, Board, served-on, leave, step, trace}
 use Rattle.order.specs.Observe.{Pairs, follow}
 use Rattle.order.specs.Promise.{ends-write, is-abort, Spares, start, Right, Calm, Ends}
 use Rattle.order.specs.Bytes.{Call, heard, fed, meant, call, talk, reads, after-all, SerialBytes, Clear}
-use Rattle.order.specs.Keep.{Keeping, is-wiped, Spoken, spoken, speak, RecordBoard, record-call, record-talk, record-end, record-start, Demand3Records, NoReset, RecordParts, record-got, RecordEnds, Again, Keeps}
+use Rattle.order.specs.Keep.{Keeping, is-wiped, spoken, speak, RecordBoard, record-call, record-talk, record-end, record-start, Demand3Records, NoReset, RecordParts, record-got, RecordEnds, Again, Keeps}
 use Rattle.order.proofs.Serial.{by-cond, own-line}
 use Rattle.order.proofs.Count.{untouched, aborts-drop, ends}
 use Rattle.order.proofs.OnBytes.{serial-bytes, decoded}
@@ -42,17 +41,28 @@ module _ (S : Setup) (R : Keeping (S .gauge .Key)) (K : Keeps S R) where
   abbrev P : Gauge
   P = S .gauge
 
-  -- the store is good, the records are whole, and each of them stands for what the line holds
+  -- the stores are the same, each record stands for what its line holds, and all is as the keeping asks
   pub record Shows (b : RecordBoard S R) (d : Board S) : Type 0 where
-    pub good : K .Good (b .store)
-    pub whole : (l : S .wires .Line) → K .Whole (b .records l)
     pub same-store : b .store ≡ d .store
     pub same-lines : (l : S .wires .Line) → R .view (b .records l) ≡ S .wires .at (d .lines) l
+    pub good : K .Good (b .store)
+    pub whole : (l : S .wires .Line) → K .Whole (b .records l)
 
   pub shows-start : (g : P .Store) → K .Good g → Shows (record-start S R g) (start S g)
-  shows-start g ok = record { good = ok; whole = λ l. K .empty-whole; same-store = refl; same-lines = λ l. K .empty-idle ∙ sym (S .wires .at-clear l) }
+  shows-start g ok = record { same-store = refl; same-lines = λ l. K .empty-idle ∙ sym (S .wires .at-clear l); good = ok; whole = λ l. K .empty-whole }
 
-  -- after a message of line l, which leaves t there: the records are whole
+  -- after a message of line l, which leaves t there, each record stands for what its line holds
+  lines-after : (rs : S .wires .Line → R .Record) (ls : S .wires .Lines) (l n : S .wires .Line) (t : R .Record) (a : After (P .Key)) → R .view t ≡ left a
+      → R .view (rs n) ≡ S .wires .at ls n → R .view (cond (is-wiped a) (λ m. R .empty) (put-at (S .wires .same) rs l t) n) ≡ S .wires .at (leave S ls l a) n
+  unfolding put-at
+  lines-after rs ls l n t wiped e h = K .empty-idle ∙ sym (S .wires .at-clear n)
+  lines-after rs ls l n t (kept x) e h = go (S .wires .same n l)
+    where
+      go : (d : Dec (n ≡ l)) → R .view (if-same d t (rs n)) ≡ S .wires .at (S .wires .with ls l x) n
+      go (yes q) = e ∙ sym (ap (S .wires .at (S .wires .with ls l x)) q ∙ S .wires .at-same ls l x)
+      go (no q) = h ∙ sym (S .wires .at-other ls l n x q)
+
+  -- and all are whole
   whole-after : (rs : S .wires .Line → R .Record) (l n : S .wires .Line) (t : R .Record) (wipes : Bool) → K .Whole t → K .Whole (rs n)
       → K .Whole (cond wipes (λ m. R .empty) (put-at (S .wires .same) rs l t) n)
   unfolding put-at
@@ -63,16 +73,10 @@ module _ (S : Setup) (R : Keeping (S .gauge .Key)) (K : Keeps S R) where
       go (yes e) = w
       go (no e) = h
 
-  -- and each stands for what its line holds
-  lines-after : (rs : S .wires .Line → R .Record) (ls : S .wires .Lines) (l n : S .wires .Line) (t : R .Record) (a : After (P .Key)) → R .view t ≡ left a
-      → R .view (rs n) ≡ S .wires .at ls n → R .view (cond (is-wiped a) (λ m. R .empty) (put-at (S .wires .same) rs l t) n) ≡ S .wires .at (leave S ls l a) n
-  unfolding put-at
-  lines-after rs ls l n t wiped e h = K .empty-idle ∙ sym (S .wires .at-clear n)
-  lines-after rs ls l n t (kept x) e h = go (S .wires .same n l)
-    where
-      go : (d : Dec (n ≡ l)) → R .view (if-same d t (rs n)) ≡ S .wires .at (S .wires .with ls l x) n
-      go (yes q) = e ∙ sym (ap (S .wires .at (S .wires .with ls l x)) q ∙ S .wires .at-same ls l x)
-      go (no q) = h ∙ sym (S .wires .at-other ls l n x q)
+  -- a message comes to the same on both
+  same-served : (b : RecordBoard S R) (d : Board S) → Shows b d → (l : S .wires .Line) (m : List ℕ)
+      → on-record P R (S .speech l) (b .store) (b .records l) m ≡ served-on S d l (S .speech l .ask m)
+  same-served b d w l m = ap₂ (λ (g : P .Store) (x : Pending (P .Key)). serve P (S .speech l .form) g x (S .speech l .ask m)) (w .same-store) (w .same-lines l)
 
   -- one call: the same bytes, and the boards go on together
   pub record Follows (b : RecordBoard S R) (d : Board S) (c : Call S) : Type 0 where
@@ -84,18 +88,18 @@ module _ (S : Setup) (R : Keeping (S .gauge .Key)) (K : Keeps S R) where
   follows b d (fed s) w =
       record {
         same-bytes = refl;
-        on = record { good = K .sample-good (b .store) s (w .good); whole = w .whole; same-store = ap (λ (g : P .Store). P .sampled g s) (w .same-store); same-lines = w .same-lines };
+        on = record { same-store = ap (λ (g : P .Store). P .sampled g s) (w .same-store); same-lines = w .same-lines; good = K .sample-good (b .store) s (w .good); whole = w .whole };
       }
   follows b d (heard l m) w =
       record {
         same-bytes = ap (λ (y : Served P). S .speech l .answer m (y .answer)) e;
         on =
             record {
-              good = again .good;
-              whole = λ n. whole-after (b .records) l n t′ (is-wiped (s .after)) (again .whole) (w .whole n);
               same-store = ap (λ (y : Served P). y .store) e;
               same-lines = λ n.
                   lines-after (b .records) (d .lines) l n t′ (s .after) (again .seen) (w .same-lines n) ∙ ap (λ (y : Served P). S .wires .at (leave S (d .lines) l (y .after)) n) e;
+              good = again .good;
+              whole = λ n. whole-after (b .records) l n t′ (is-wiped (s .after)) (again .whole) (w .whole n);
             };
       }
     where
@@ -109,7 +113,7 @@ module _ (S : Setup) (R : Keeping (S .gauge .Key)) (K : Keeps S R) where
       again = K .again l (b .store) (b .records l) m (w .good) (w .whole l)
 
       e : s ≡ served-on S d l (S .speech l .ask m)
-      e = ap₂ (λ (g : P .Store) (x : Pending (P .Key)). serve P (S .speech l .form) g x (S .speech l .ask m)) (w .same-store) (w .same-lines l)
+      e = same-served b d w l m
 
   pub same-talk : (cs : List (Call S)) (b : RecordBoard S R) (d : Board S) → Shows b d → record-talk S R b cs ≡ talk S d cs
   unfolding record-talk talk
@@ -141,8 +145,7 @@ module _ (S : Setup) (R : Keeping (S .gauge .Key)) (K : Keeps S R) where
   unfolding call speak step
   no-reset-calm [] b d w n = tt
   no-reset-calm (heard l m ∷ cs) b d w n = (
-    subst (λ (y : Served P). Spares (y .after)) (ap₂ (λ (g : P .Store) (x : Pending (P .Key)). serve P (S .speech l .form) g x (S .speech l .ask m)) (w .same-store) (w .same-lines l))
-        (spares ((on-record P R (S .speech l) (b .store) (b .records l) m) .after) (n .0)),
+    subst (λ (y : Served P). Spares (y .after)) (same-served b d w l m) (spares ((on-record P R (S .speech l) (b .store) (b .records l) m) .after) (n .0)),
     no-reset-calm cs ((record-call S R b (heard l m)) .0) ((call S d (heard l m)) .0) ((follows b d (heard l m) w) .on) (n .1),
   )
   no-reset-calm (fed s ∷ cs) b d w n = no-reset-calm cs ((record-call S R b (fed s)) .0) ((call S d (fed s)) .0) ((follows b d (fed s) w) .on) n

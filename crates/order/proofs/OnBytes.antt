@@ -3,7 +3,7 @@ use mathlib.Core.Path.{_≡_, refl, sym, ap, ap₂, _∙_, subst}
 use mathlib.Core.List.{List, [], _∷_, map}
 use Rattle.order.specs.Talk.{Answer}
 use Rattle.order.specs.Gauge.{end-of}
-use Rattle.order.specs.Serve.{Setup, Board, Event, step, trace, run}
+use Rattle.order.specs.Serve.{Setup, Board, step, trace, run}
 use Rattle.order.specs.Observe.{Done, Pairs, observe, fresh}
 use Rattle.order.specs.Promise.{ops-of, start, done-in, Serial}
 use Rattle.order.specs.Bytes.{Call, heard, fed, meant, answered, call, talk, after-all, understood, reads, client, SerialBytes, Clear}

@@ -9,9 +9,9 @@ use mathlib.Core.Option.{Option, none, some, Option·map}
 use lib.Dec.{T, ltb, leb, leb→le}
 use lib.ListN.{length, take}
 use lib.Seq.{take-add, take-all}
-use Rattle.order.specs.Talk.{Said, Request, open-read, next-part, expedited, open-write, send-part, give-up, unknown, Answer, write-opened, part-taken, dropped, no-transfer, Read, value, denied, Sizes, sizes, closed, Outcome, stored, restarted, declined, Pending, idle, reading, writing, gave, yes! }
+use Rattle.order.specs.Talk.{Said, Request, open-read, next-part, expedited, open-write, send-part, give-up, unknown, Answer, write-opened, part-taken, dropped, Read, value, denied, Sizes, sizes, closed, Outcome, stored, restarted, declined, Pending, idle, reading, writing, gave, yes! }
 use Rattle.order.specs.Gauge.{Gauge, too-long, counted, say, judged, judged-by, allowed, write-whole, Op, read, write, read-result, write-result, written, result, after, results, end-of}
-use Rattle.order.specs.Serve.{Form, Wires, if-same, put-at, Setup, toggle-code, After, kept, wiped, left, Reply, over, refuse, read-opening, give-part, read-part, take-more, write-opening, Served, keeping, conclude, take-part, write-part, serve, Board, Event, message, sample, served-on, leave, step, trace, run}
+use Rattle.order.specs.Serve.{Form, Wires, if-same, put-at, Setup, toggle-code, After, kept, wiped, left, Reply, over, read-opening, give-part, read-part, take-more, write-opening, Served, keeping, conclude, take-part, write-part, serve, Board, Event, message, sample, leave, step, trace, run}
 use Rattle.order.specs.Observe.{Seen, nothing, sending, gain, ended, ended-early, if-yes, noted, note, onward, Done, read-done, part-done, finished, placed, Seens, follow, observe, fresh}
 use Rattle.order.specs.Promise.{ops-of, got-of, start, done-in, Serial}
 
