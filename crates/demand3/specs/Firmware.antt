@@ -167,7 +167,7 @@ value-got l ps = follow setup l (map (reads setup) (events ps)) []
 
 -- how many messages the line's client sends among these calls
 abbrev pub parts-asked : Line → List (Exported × Back) → ℕ
-parts-asked l ps = parts-asked-in setup transfers l (calls-in ps)
+parts-asked l ps = parts-asked-in setup l (calls-in ps)
 
 -- a message that is answered opens a read of an entry that holds these bytes, more than four, and these calls come after it: the line's own
 -- messages among them ask for parts with right toggles, and no device reset is done (R6.6)
