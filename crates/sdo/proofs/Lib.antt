@@ -1,2 +1,4 @@
 pub mod Facts
 pub mod RoundTrip
+pub mod HeardLaws
+pub mod Carries
