@@ -8,20 +8,17 @@ use lib.Ieee.{Float}
 use lib.ListN.{length}
 use Rattle.wire.specs.Splice.{splice}
 use Rattle.sample.specs.Image.{image-of}
-use Rattle.gauge.specs.Memory.{Store, memory-of}
+use Rattle.gauge.specs.Memory.{Store}
 use Rattle.gauge.specs.PowerUp.{fresh-values}
-use Rattle.sdo.specs.Records.{Spoken, speak}
-use Rattle.state.specs.State.{record-place, record-at, trips-place, trips-at, trips-bytes, dropped, settled}
-use Rattle.board.specs.Gauge.{sampled, bag552}
-
--- ---- what the lent bytes say
-
-abbrev pub store-of : List ℕ → List ℕ → List ℕ → Store
-store-of values block state = record { memory = memory-of values block; trips = trips-at state }
+use Rattle.order.specs.Keep.{Spoken, speak}
+use Rattle.sdo.specs.Eight.{eight-bytes}
+use Rattle.transfer.specs.Records.{transfers}
+use Rattle.state.specs.State.{state-size, record-place, record-at, trips-place, trips-bytes, fresh-state, settled}
+use Rattle.line.specs.Gauge.{sampled, plain, store-of}
 
 -- the lengths of what is lent (R13.2)
 unfoldable pub sized : List ℕ → List ℕ → List ℕ → Bool
-sized values block state = eqb (length values) 1024 && (eqb (length block) 512 && eqb (length state) 256)
+sized values block state = eqb (length values) 1024 && (eqb (length block) 512 && eqb (length state) state-size)
 
 -- ---- gauge_message
 
@@ -40,7 +37,7 @@ unfoldable pub number-by : List ℕ → ℕ
 number-by [] = 5
 number-by (b ∷ bytes) = 0
 
-abbrev pub state-after : ℕ → Spoken Store → List ℕ → List ℕ
+abbrev pub state-after : ℕ → Spoken plain transfers → List ℕ → List ℕ
 state-after line s state = settled (record-place line) (s .next) (s .reset) state
 
 -- what the message call lends when it serves
@@ -48,11 +45,11 @@ pub record Lent (m values block state answer : List ℕ) : Type 0 where
   pub message-long : length m ≡ 8
   pub values-long : length values ≡ 1024
   pub block-long : length block ≡ 512
-  pub state-long : length state ≡ 256
+  pub state-long : length state ≡ state-size
   pub room : 8 ≤ length answer
 
 -- the message is served: the answer's bytes are written, if any, and no other of the room (R13.7, R13.8)
-unfoldable pub served : ℕ → Spoken Store → List ℕ → List ℕ → Called
+unfoldable pub served : ℕ → Spoken plain transfers → List ℕ → List ℕ → Called
 served line s state answer =
     called (number-by (s .bytes)) (s .store .memory .values) (s .store .memory .block) (state-after line s state) (splice answer 0 (s .bytes))
 
@@ -63,7 +60,7 @@ message-call line m values block state answer =
     (cond (leb line 1)
     (cond (leb 8 (length answer))
     (cond (eqb (length m) 8)
-    (served line (speak bag552 (store-of values block state) (record-at state (record-place line)) m) state answer)
+    (served line (speak plain transfers eight-bytes (store-of values block state) (record-at state (record-place line)) m) state answer)
     (called 1 values block state answer))
     (called 2 values block state answer))
     (called 3 values block state answer))
@@ -82,7 +79,7 @@ powered number values state = record { number = number; values = values; state =
 
 -- values from the block, records and trips as at power-up (R9.1 to R9.3)
 unfoldable pub power-up-call : List ℕ → List ℕ → List ℕ → Powered
-power-up-call values block state = cond (sized values block state) (powered 0 (fresh-values block) (dropped state)) (powered 4 values state)
+power-up-call values block state = cond (sized values block state) (powered 0 (fresh-values block) (fresh-state state)) (powered 4 values state)
 
 -- ---- gauge_sample
 
@@ -99,7 +96,7 @@ fed-by g state = fed 0 (g .memory .values) (splice state trips-place (trips-byte
 
 unfoldable pub sample-call : Float → ℕ → ℕ → ℕ → List ℕ → List ℕ → Fed
 sample-call pressure valid faults seconds values state =
-    cond (eqb (length values) 1024 && eqb (length state) 256)
+    cond (eqb (length values) 1024 && eqb (length state) state-size)
     (fed-by (sampled (store-of values [] state) (record { pressure = pressure; valid = valid; faults = faults; seconds = seconds })) state)
     (fed 4 values state)
 

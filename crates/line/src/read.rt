@@ -2,61 +2,69 @@
 use crate::reply;
 use command::word;
 use gate::Gate;
-use sdo::Direction;
 use sdo::Key;
-use sdo::Transfer;
 use sdo::answer;
-use sdo::record;
+use transfer::Direction;
+use transfer::Transfer;
 ghost use mathlib.Core.Bool.{true};
+ghost use mathlib.Core.List.{[]};
 ghost use mathlib.Core.Path.{_≡_};
 ghost use Prim.Native.Nat.{_+_, _≤_, _<_};
-ghost use lib.ListN.{length};
-ghost use Rattle.order.specs.Talk.{opened};
+ghost use lib.ListN.{length, take};
+ghost use Rattle.order.specs.Talk.{opened, value};
+ghost use Rattle.order.specs.Serve.{read-opening, give-part, read-part};
 ghost use Rattle.table.specs.Rows.{row-count, at-row};
 ghost use Rattle.find.specs.Columns.{shape as row-shape};
-ghost use Rattle.table.specs.Find.{find-row};
-ghost use Rattle.gate.specs.Gates.{read-gate};
-ghost use Rattle.gauge.specs.Whole.{value-of};
-ghost use Rattle.sdo.specs.Eight.{answer-of};
-ghost use Rattle.sdo.specs.Records.{key-at};
-ghost use Rattle.sdo.specs.Replies.{given-reply, next-part-reply};
+ghost use Rattle.gauge.specs.Whole.{value-of, read-whole};
+ghost use Rattle.sdo.specs.Eight.{answer-of, eight};
+ghost use Rattle.transfer.specs.Records.{key-at, row-of, view, zero-record-at};
 ghost use Rattle.state.specs.State.{record-at};
-ghost use Rattle.line.specs.Answering.{kept, replied, through, opens-read};
+ghost use Rattle.line.specs.Gauge.{plain, store-of};
+ghost use Rattle.line.specs.Serving.{Room, kept, replied};
 
 // The next part of a read that counts.
-fn give_part(state: &mut [u8], at: usize, t: Transfer) -> [u8; 8]
-    requires { ⌜ (at + 70 ≤ length (now state)) × (t .len ≤ 64) × (t .place ≤ t .len) ⌝ }
-    ensures { λ r. ⌜ kept (now (state .exit)) r ≡ replied at (now (state .entry)) (given-reply t) ⌝ }
+fn give_part(state: &mut [u8], at: usize, t: Transfer, room: &mut [u8])
+    requires { ⌜ Room at (now state) (now room) × (t .len ≤ 64) × (t .place ≤ t .len) ⌝ }
+    ensures { λ _. ⌜ kept (now (state .exit)) (now (room .exit)) ≡ replied at (now (state .entry)) (now (room .entry)) t (give-part plain eight (key-at (t .row)) (take (t .len) (t .held)) (t .place) (t .toggle)) ⌝ }
 {
     let held = t.held;
     let len = t.len;
     let place = t.place;
     let toggle = t.toggle;
-    if len <= place + 7 {
-        return reply::ended(state, at, answer::part_last(&held, len, place, toggle));
+    if len <= place + sdo::PART {
+        reply::ended(
+            state,
+            at,
+            room,
+            answer::part_last(&held, len, place, toggle),
+        );
+        return;
     }
     reply::going(
         state,
         at,
-        record::turned(t),
+        transfer::turned(t, sdo::PART),
+        room,
         answer::part_more(&held, place, toggle),
-    )
+    );
 }
 
-pub fn next_part(state: &mut [u8], at: usize, toggle: bool) -> [u8; 8]
-    requires { ⌜ at + 70 ≤ length (now state) ⌝ }
-    ensures { λ r. ⌜ kept (now (state .exit)) r ≡ replied at (now (state .entry)) (next-part-reply (record-at (now (state .entry)) at) toggle) ⌝ }
+pub fn next_part(state: &mut [u8], at: usize, toggle: bool, room: &mut [u8])
+    requires { ⌜ Room at (now state) (now room) ⌝ }
+    ensures { λ _. ⌜ kept (now (state .exit)) (now (room .exit)) ≡ replied at (now (state .entry)) (now (room .entry)) (record-at (now (state .entry)) at) (read-part plain eight (view (record-at (now (state .entry)) at)) toggle) ⌝ }
 {
     let t = state::record_at(state, at);
     let row = t.row;
     let expected = t.toggle;
-    if record::reading(t) {
+    if transfer::reading(t) {
         if expected == toggle {
-            return give_part(state, at, t);
+            give_part(state, at, t, room);
+            return;
         }
-        return reply::ended(state, at, answer::wrong_toggle(record::key_at(row)));
+        reply::wrong_toggle(state, at, room, transfer::key_at(row));
+        return;
     }
-    reply::ended(state, at, answer::no_transfer())
+    reply::ended(state, at, room, answer::no_transfer());
 }
 
 // The answer that opens a read of up to four bytes. An entry that stands in the values is shown from there, with no copy; the card is
@@ -74,27 +82,28 @@ fn short_answer(values: &[u8], k: Key, row: usize, kind: u8, len: usize) -> [u8;
 }
 
 // A read is opened on the row of its key.
-fn open_row(values: &[u8], state: &mut [u8], at: usize, k: Key, row: usize, shape: u16) -> [u8; 8]
-    requires { ⌜ (length (now values) ≡ 1024) × (at + 70 ≤ length (now state)) × (row < row-count) × (k ≡ key-at row) × (shape ≡ row-shape (at-row row)) ⌝ }
-    ensures { λ r. ⌜ kept (now (state .exit)) r ≡ replied at (now (state .entry)) (opens-read (now (values .entry)) row) ⌝ }
+fn open_row(values: &[u8], state: &mut [u8], at: usize, k: Key, row: usize, shape: u16, room: &mut [u8])
+    requires { ⌜ (length (now values) ≡ 1024) × Room at (now state) (now room) × (row < row-count) × (k ≡ key-at row) × (shape ≡ row-shape (at-row row)) ⌝ }
+    ensures { λ _. ⌜ kept (now (state .exit)) (now (room .exit)) ≡ replied at (now (state .entry)) (now (room .entry)) (zero-record-at row) (read-opening plain eight k (value (value-of (at-row row) (now (values .entry))))) ⌝ }
 {
     let kind = find::field::kind_in(shape);
     let len = find::field::len_in(shape);
     if answer::is_short(len) {
-        return reply::ended(state, at, short_answer(values, k, row, kind, len));
+        reply::ended(state, at, room, short_answer(values, k, row, kind, len));
+        return;
     }
     let held = gauge::read::value_of(values, row, kind, len);
-    let next = record::opened(Direction::Reads, row, held, len);
-    reply::going(state, at, next, answer::opened_long(k, len))
+    let next = transfer::opened(Direction::Reads, row, held, len);
+    reply::going(state, at, next, room, answer::opened_long(k, len));
 }
 
-pub fn open_read(values: &[u8], state: &mut [u8], at: usize, k: Key) -> [u8; 8]
-    requires { ⌜ (length (now values) ≡ 1024) × (at + 70 ≤ length (now state)) ⌝ }
-    ensures { λ r. ⌜ kept (now (state .exit)) r ≡ replied at (now (state .entry)) (through (read-gate (find-row (k .index) (k .sub))) k (opens-read (now (values .entry)))) ⌝ }
+pub fn open_read(values: &[u8], state: &mut [u8], at: usize, k: Key, room: &mut [u8])
+    requires { ⌜ (length (now values) ≡ 1024) × Room at (now state) (now room) ⌝ }
+    ensures { λ _. ⌜ kept (now (state .exit)) (now (room .exit)) ≡ replied at (now (state .entry)) (now (room .entry)) (zero-record-at (row-of k)) (read-opening plain eight k (read-whole (store-of (now (values .entry)) [] (now (state .entry))) (k .index) (k .sub))) ⌝ }
 {
     let gate = gate::to_read(k.index, k.sub);
     match gate {
-        Gate::Open(row, shape) => open_row(values, state, at, k, row, shape),
-        Gate::Shut(code) => reply::refused(state, at, k, code),
+        Gate::Open(row, shape) => open_row(values, state, at, k, row, shape, room),
+        Gate::Shut(code) => reply::refused(state, at, room, k, code),
     }
 }

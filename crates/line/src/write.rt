@@ -2,107 +2,105 @@
 use crate::reply;
 use gate::Gate;
 use gauge::commit::Ending;
-use sdo::Direction;
 use sdo::Key;
 use sdo::Opening;
-use sdo::Transfer;
 use sdo::answer;
-use sdo::record;
+use transfer::Direction;
+use transfer::Transfer;
+ghost use mathlib.Core.Bool.{Bool, true, not};
+ghost use mathlib.Core.List.{List, [], _++_};
 ghost use mathlib.Core.Path.{_≡_};
-ghost use Prim.Native.Nat.{_+_, _≤_, _<_};
+ghost use Prim.Native.Nat.{ℕ, _+_, _≤_, _<_};
 ghost use lib.ListN.{length, take, drop};
-ghost use Rattle.order.specs.Talk.{announced, unsaid, own};
-ghost use Rattle.table.specs.Rows.{row-count, at-row};
-ghost use Rattle.find.specs.Columns.{shape as row-shape};
+ghost use Rattle.wire.specs.Splice.{splice};
+ghost use Rattle.order.specs.Talk.{announced, own, Answer, part-taken, write-opened, sizes};
+ghost use Rattle.order.specs.Gauge.{by-length, narrowed, judged-by};
+ghost use Rattle.order.specs.Serve.{write-opening, take-more, conclude, take-part, write-part};
+ghost use Rattle.table.specs.Rows.{at-row};
 ghost use Rattle.table.specs.Find.{find-row};
-ghost use Rattle.gate.specs.Gates.{write-gate};
-ghost use Rattle.gauge.specs.Endings.{left, left-by};
-ghost use Rattle.gauge.specs.Memory.{memory-of};
-ghost use Rattle.gauge.specs.Whole.{commit-row};
+ghost use Rattle.table.specs.declared.Found.the-variants.{At};
+ghost use Rattle.find.specs.Columns.{shape as row-shape};
+ghost use Rattle.sdo.specs.declared.Key.{Key as Entry};
+ghost use Rattle.sdo.specs.declared.Heard.the-variants.{Asks};
 ghost use Rattle.sdo.specs.declared.Message.the-variants.{OpenWrite};
-ghost use Rattle.sdo.specs.Eight.{message-of};
-ghost use Rattle.sdo.specs.Records.{key-at};
-ghost use Rattle.sdo.specs.Replies.{taken-reply, send-part-reply, open-write-reply, value-reply, expedited-reply};
+ghost use Rattle.sdo.specs.Eight.{answer-of, heard-of};
+ghost use Rattle.transfer.specs.Records.{zero-record, zero-record-at, key-at, view};
 ghost use Rattle.state.specs.State.{record-at};
-ghost use Rattle.line.specs.Answering.{Ready, kept, replied, told, answered, through, opens-write, state-by, eight-by};
+ghost use Rattle.line.specs.Gauge.{plain, store-of};
+ghost use Rattle.line.specs.Serving.{Room, Ready, Writable, kept, replied, told, told-by, spoken-over, message-told};
 
-// A whole write ends the transfer; after a device reset no line has one.
-fn conclude(
-    values: &mut [u8],
-    block: &mut [u8],
-    state: &mut [u8],
-    at: usize,
-    row: usize,
-    kind: u8,
-    bytes: &[u8],
-) -> Ending
-    requires { ⌜ Ready at (now values) (now block) (now state) × (row < row-count) × (kind ≡ at-row row .kind) × (length (now bytes) ≡ at-row row .len) ⌝ }
-    ensures { λ r. ⌜ (left r (now (values .exit)) (now (block .exit)) ≡ left-by (memory-of (now (values .entry)) (now (block .entry))) (commit-row row (now (bytes .entry)) (memory-of (now (values .entry)) (now (block .entry))))) × (now (state .exit) ≡ state-by at r (now (state .entry))) ⌝ }
+// A length that a client says or has sent, against the smallest and the largest: the code that refuses it, or 0.
+fn length_fault(low: usize, high: usize, n: usize) -> u32
+    ensures { λ r. ⌜ r ≡ by-length low high n (λ c. c) 0 ⌝ }
 {
+    if high < n {
+        return 0x06070012;
+    }
+    if n < low {
+        return 0x06070013;
+    }
+    0
+}
+
+// A whole write ends the transfer; after a device reset no line has one. The room has the answer that says yes; where the write is
+// refused the abort takes its place.
+fn conclude(values: &mut [u8], block: &mut [u8], state: &mut [u8], at: usize, row: usize, bytes: &[u8], room: &mut [u8])
+    requires { ⌜ Ready at (now values) (now block) (now state) (now room) × Writable row × (length (now bytes) ≡ at-row row .len) ⌝ }
+    ensures { λ _. ⌜ ((agreed : Answer Entry) (before : List ℕ) → length (answer-of agreed) ≡ 8 → now (room .entry) ≡ splice before 0 (answer-of agreed) → told (now (values .exit)) (now (block .exit)) (now (state .exit)) (now (room .exit)) ≡ told-by at (now (state .entry)) before (spoken-over zero-record (conclude plain (store-of (now (values .entry)) (now (block .entry)) (now (state .entry))) (key-at row) agreed (plain .commit (store-of (now (values .entry)) (now (block .entry)) (now (state .entry))) (key-at row) (now (bytes .entry)))))) ⌝ }
+{
+    let kind = find::field::kind_of(row);
     let ending = gauge::commit::commit(values, block, row, kind, bytes);
     match ending {
-        Ending::Accepted => {
-            state::clear_record(state, at);
-            Ending::Accepted
-        }
-        Ending::Restarted => {
-            state::drop_all(state);
-            Ending::Restarted
-        }
-        Ending::Refused(code) => {
-            state::clear_record(state, at);
-            Ending::Refused(code)
-        }
+        Ending::Accepted => state::clear_record(state, at),
+        Ending::Restarted => state::drop_all(state),
+        Ending::Refused(code) => reply::refused(state, at, room, transfer::key_at(row), code),
     }
 }
 
-// The answer to a whole write: the one that says yes, or the abort with its code.
-fn answer_by(ending: Ending, row: usize, eight: [u8; 8]) -> [u8; 8]
-    requires { ⌜ row < row-count ⌝ }
-    ensures { λ r. ⌜ r ≡ eight-by row eight ending ⌝ }
+// ---- parts: count bytes of m, from a byte on
+
+// A part that is not the last.
+fn take_more(state: &mut [u8], at: usize, t: Transfer, m: &[u8], from: usize, count: usize, room: &mut [u8])
+    requires { ⌜ Room at (now state) (now room) × (from + count ≤ length (now m)) × Writable (t .row) × (t .len ≡ at-row (t .row) .len) × (t .place ≤ t .len) × (t ≡ record-at (now state) at) ⌝ }
+    ensures { λ _. ⌜ kept (now (state .exit)) (now (room .exit)) ≡ replied at (now (state .entry)) (now (room .entry)) t (take-more plain (key-at (t .row)) (t .len) (t .len) (take (t .place) (t .held) ++ take count (drop from (now (m .entry)))) (not (t .toggle)) (part-taken (t .toggle))) ⌝ }
 {
-    match ending {
-        Ending::Accepted => eight,
-        Ending::Restarted => eight,
-        Ending::Refused(code) => answer::abort(record::key_at(row), code),
+    let row = t.row;
+    let eight = answer::part_taken(t.toggle);
+    if t.len < t.place + count {
+        reply::refused(state, at, room, transfer::key_at(row), 0x06070012);
+        return;
     }
+    state::put_part(state, at, t, m, from, count);
+    reply::tell(room, eight);
 }
 
-// ---- parts
-
-// The next part of a write that counts: count bytes of message m, from its byte 1 on.
-fn take_part(
+// The last part.
+fn take_last(
     values: &mut [u8],
     block: &mut [u8],
     state: &mut [u8],
     at: usize,
     t: Transfer,
     m: &[u8],
+    from: usize,
     count: usize,
-    last: bool,
-) -> [u8; 8]
-    requires { ⌜ Ready at (now values) (now block) (now state) × ((length (now m) ≡ 8) × (count ≤ 7)) × (t .row < row-count) × (t .len ≡ at-row (t .row) .len) × (t .place ≤ t .len) × (t ≡ record-at (now state) at) ⌝ }
-    ensures { λ r. ⌜ told (now (values .exit)) (now (block .exit)) (now (state .exit)) r ≡ answered at (now (values .entry)) (now (block .entry)) (now (state .entry)) (taken-reply t (take count (drop 1 (now (m .entry)))) last) ⌝ }
+    room: &mut [u8],
+)
+    requires { ⌜ Ready at (now values) (now block) (now state) (now room) × (from + count ≤ length (now m)) × Writable (t .row) × (t .len ≡ at-row (t .row) .len) × (t .place ≤ t .len) × (t ≡ record-at (now state) at) ⌝ }
+    ensures { λ _. ⌜ told (now (values .exit)) (now (block .exit)) (now (state .exit)) (now (room .exit)) ≡ told-by at (now (state .entry)) (now (room .entry)) (spoken-over t (take-part plain (store-of (now (values .entry)) (now (block .entry)) (now (state .entry))) (key-at (t .row)) (t .len) (t .len) (take (t .place) (t .held) ++ take count (drop from (now (m .entry)))) (not (t .toggle)) true (part-taken (t .toggle)))) ⌝ }
 {
     let row = t.row;
     let len = t.len;
-    let place = t.place;
     let eight = answer::part_taken(t.toggle);
-    if len < place + count {
-        return reply::refused(state, at, record::key_at(row), 0x06070012);
+    let fault = length_fault(len, len, t.place + count);
+    if fault != 0 {
+        reply::refused(state, at, room, transfer::key_at(row), fault);
+        return;
     }
-    if last {
-        if place + count < len {
-            return reply::refused(state, at, record::key_at(row), 0x06070013);
-        }
-        let next = record::grown(t, m, count);
-        let held = next.held;
-        let kind = find::field::kind_of(row);
-        let ending = conclude(values, block, state, at, row, kind, &held[..len]);
-        return answer_by(ending, row, eight);
-    }
-    state::put_part(state, at, t, m, count);
-    eight
+    let next = transfer::grown(t, m, from, count);
+    let held = next.held;
+    reply::tell(room, eight);
+    conclude(values, block, state, at, row, &held[..len], room);
 }
 
 pub fn send_part(
@@ -110,72 +108,55 @@ pub fn send_part(
     block: &mut [u8],
     state: &mut [u8],
     at: usize,
-    m: &[u8],
     toggle: bool,
+    m: &[u8],
+    from: usize,
     count: usize,
     last: bool,
-) -> [u8; 8]
-    requires { ⌜ Ready at (now values) (now block) (now state) × (length (now m) ≡ 8) × (count ≤ 7) ⌝ }
-    ensures { λ r. ⌜ told (now (values .exit)) (now (block .exit)) (now (state .exit)) r ≡ answered at (now (values .entry)) (now (block .entry)) (now (state .entry)) (send-part-reply (record-at (now (state .entry)) at) toggle (take count (drop 1 (now (m .entry)))) last) ⌝ }
+    room: &mut [u8],
+)
+    requires { ⌜ Ready at (now values) (now block) (now state) (now room) × (from + count ≤ length (now m)) ⌝ }
+    ensures { λ _. ⌜ told (now (values .exit)) (now (block .exit)) (now (state .exit)) (now (room .exit)) ≡ told-by at (now (state .entry)) (now (room .entry)) (spoken-over (record-at (now (state .entry)) at) (write-part plain (store-of (now (values .entry)) (now (block .entry)) (now (state .entry))) (view (record-at (now (state .entry)) at)) toggle (take count (drop from (now (m .entry)))) last)) ⌝ }
 {
     let t = state::record_at(state, at);
     let row = t.row;
     let expected = t.toggle;
-    if record::writing(t) {
+    if transfer::writing(t) {
         if expected == toggle {
-            return take_part(values, block, state, at, t, m, count, last);
+            if last {
+                take_last(values, block, state, at, t, m, from, count, room);
+                return;
+            }
+            take_more(state, at, t, m, from, count, room);
+            return;
         }
-        return reply::ended(state, at, answer::wrong_toggle(record::key_at(row)));
+        reply::wrong_toggle(state, at, room, transfer::key_at(row));
+        return;
     }
-    reply::ended(state, at, answer::no_transfer())
+    reply::ended(state, at, room, answer::no_transfer());
 }
 
 // ---- openings on the row of their key
 
-// A write in parts, of the row's own length, which is not announced.
-fn open_parts(state: &mut [u8], at: usize, k: Key, row: usize, len: usize) -> [u8; 8]
-    requires { ⌜ (at + 70 ≤ length (now state)) × (row < row-count) × (k ≡ key-at row) × (len ≡ at-row row .len) ⌝ }
-    ensures { λ r. ⌜ kept (now (state .exit)) r ≡ replied at (now (state .entry)) (open-write-reply row unsaid) ⌝ }
+// A write in parts, of the row's own length.
+fn open_parts(state: &mut [u8], at: usize, k: Key, row: usize, len: usize, room: &mut [u8])
+    requires { ⌜ Room at (now state) (now room) × (len ≤ 64) ⌝ }
+    ensures { λ _. ⌜ kept (now (state .exit)) (now (room .exit)) ≡ replied at (now (state .entry)) (now (room .entry)) (zero-record-at row) (write-opening plain k [] (sizes len len)) ⌝ }
 {
-    let next = record::opened(Direction::Writes, row, [0; 64], len);
-    reply::going(state, at, next, answer::write_opened(k))
+    let next = transfer::opened(Direction::Writes, row, [0; 64], len);
+    reply::going(state, at, next, room, answer::write_opened(k));
 }
 
-// Its length is announced.
-fn open_announced(state: &mut [u8], at: usize, k: Key, row: usize, len: usize, n: u32) -> [u8; 8]
-    requires { ⌜ (at + 70 ≤ length (now state)) × (row < row-count) × (k ≡ key-at row) × (len ≡ at-row row .len) ⌝ }
-    ensures { λ r. ⌜ kept (now (state .exit)) r ≡ replied at (now (state .entry)) (open-write-reply row (announced n)) ⌝ }
+// A write of the value that is lent, of the row's own length.
+fn with_value(values: &mut [u8], block: &mut [u8], state: &mut [u8], at: usize, k: Key, row: usize, bytes: &[u8], room: &mut [u8])
+    requires { ⌜ Ready at (now values) (now block) (now state) (now room) × (Writable row × (k ≡ key-at row)) × (length (now bytes) ≡ at-row row .len) ⌝ }
+    ensures { λ _. ⌜ told (now (values .exit)) (now (block .exit)) (now (state .exit)) (now (room .exit)) ≡ told-by at (now (state .entry)) (now (room .entry)) (spoken-over zero-record (conclude plain (store-of (now (values .entry)) (now (block .entry)) (now (state .entry))) k (write-opened k) (plain .commit (store-of (now (values .entry)) (now (block .entry)) (now (state .entry))) k (now (bytes .entry))))) ⌝ }
 {
-    let said = n as usize;
-    if len < said {
-        return reply::refused(state, at, k, 0x06070012);
-    }
-    if said < len {
-        return reply::refused(state, at, k, 0x06070013);
-    }
-    open_parts(state, at, k, row, len)
+    reply::tell(room, answer::write_opened(k));
+    conclude(values, block, state, at, row, bytes, room);
 }
 
-// The value in bytes 4 to 7 of message m, of the row's own length.
-fn with_value(
-    values: &mut [u8],
-    block: &mut [u8],
-    state: &mut [u8],
-    at: usize,
-    k: Key,
-    row: usize,
-    kind: u8,
-    len: usize,
-    m: &[u8],
-) -> [u8; 8]
-    requires { ⌜ Ready at (now values) (now block) (now state) × ((row < row-count) × (k ≡ key-at row) × (kind ≡ at-row row .kind)) × (len ≡ at-row row .len) × (len ≤ 4) × (length (now m) ≡ 8) ⌝ }
-    ensures { λ r. ⌜ told (now (values .exit)) (now (block .exit)) (now (state .exit)) r ≡ answered at (now (values .entry)) (now (block .entry)) (now (state .entry)) (value-reply row len (now (m .entry))) ⌝ }
-{
-    let ending = conclude(values, block, state, at, row, kind, &m[4..4 + len]);
-    answer_by(ending, row, answer::write_opened(k))
-}
-
-// A write of the count bytes in the message.
+// A write of the count bytes of m, from a byte on.
 fn write_sized(
     values: &mut [u8],
     block: &mut [u8],
@@ -183,24 +164,24 @@ fn write_sized(
     at: usize,
     k: Key,
     row: usize,
-    kind: u8,
     len: usize,
     m: &[u8],
+    from: usize,
     count: usize,
-) -> [u8; 8]
-    requires { ⌜ Ready at (now values) (now block) (now state) × ((row < row-count) × (k ≡ key-at row) × (kind ≡ at-row row .kind)) × (len ≡ at-row row .len) × (length (now m) ≡ 8) × (count ≤ 4) ⌝ }
-    ensures { λ r. ⌜ told (now (values .exit)) (now (block .exit)) (now (state .exit)) r ≡ answered at (now (values .entry)) (now (block .entry)) (now (state .entry)) (expedited-reply row (announced count) (take count (drop 4 (now (m .entry))))) ⌝ }
+    room: &mut [u8],
+)
+    requires { ⌜ Ready at (now values) (now block) (now state) (now room) × (Writable row × (k ≡ key-at row)) × (len ≡ at-row row .len) × (from + count ≤ length (now m)) ⌝ }
+    ensures { λ _. ⌜ told (now (values .exit)) (now (block .exit)) (now (state .exit)) (now (room .exit)) ≡ told-by at (now (state .entry)) (now (room .entry)) (spoken-over zero-record (conclude plain (store-of (now (values .entry)) (now (block .entry)) (now (state .entry))) k (write-opened k) (judged-by plain (store-of (now (values .entry)) (now (block .entry)) (now (state .entry))) k (announced count) (take count (drop from (now (m .entry)))) (narrowed len len (announced count))))) ⌝ }
 {
-    if len < count {
-        return reply::refused(state, at, k, 0x06070012);
+    let fault = length_fault(len, len, count);
+    if fault != 0 {
+        reply::refused(state, at, room, k, fault);
+        return;
     }
-    if count < len {
-        return reply::refused(state, at, k, 0x06070013);
-    }
-    with_value(values, block, state, at, k, row, kind, len, m)
+    with_value(values, block, state, at, k, row, &m[from..from + count], room);
 }
 
-// A write of the entry's own length.
+// A write of the entry's own length, of the count bytes that stand from a byte on.
 fn write_own(
     values: &mut [u8],
     block: &mut [u8],
@@ -208,17 +189,33 @@ fn write_own(
     at: usize,
     k: Key,
     row: usize,
-    kind: u8,
     len: usize,
     m: &[u8],
-) -> [u8; 8]
-    requires { ⌜ Ready at (now values) (now block) (now state) × ((row < row-count) × (k ≡ key-at row) × (kind ≡ at-row row .kind)) × (len ≡ at-row row .len) × (length (now m) ≡ 8) ⌝ }
-    ensures { λ r. ⌜ told (now (values .exit)) (now (block .exit)) (now (state .exit)) r ≡ answered at (now (values .entry)) (now (block .entry)) (now (state .entry)) (expedited-reply row own (take 4 (drop 4 (now (m .entry))))) ⌝ }
+    from: usize,
+    count: usize,
+    room: &mut [u8],
+)
+    requires { ⌜ Ready at (now values) (now block) (now state) (now room) × (Writable row × (k ≡ key-at row)) × (len ≡ at-row row .len) × (from + count ≤ length (now m)) ⌝ }
+    ensures { λ _. ⌜ told (now (values .exit)) (now (block .exit)) (now (state .exit)) (now (room .exit)) ≡ told-by at (now (state .entry)) (now (room .entry)) (spoken-over zero-record (conclude plain (store-of (now (values .entry)) (now (block .entry)) (now (state .entry))) k (write-opened k) (judged-by plain (store-of (now (values .entry)) (now (block .entry)) (now (state .entry))) k own (take count (drop from (now (m .entry)))) (narrowed len len own)))) ⌝ }
 {
-    if 4 < len {
-        return reply::refused(state, at, k, 0x06070013);
+    if count < len {
+        reply::refused(state, at, room, k, 0x06070013);
+        return;
     }
-    with_value(values, block, state, at, k, row, kind, len, m)
+    with_value(values, block, state, at, k, row, &m[from..from + len], room);
+}
+
+// A write in parts, its length announced.
+fn open_announced(state: &mut [u8], at: usize, k: Key, row: usize, len: usize, n: u32, room: &mut [u8])
+    requires { ⌜ Room at (now state) (now room) × (len ≤ 64) ⌝ }
+    ensures { λ _. ⌜ kept (now (state .exit)) (now (room .exit)) ≡ replied at (now (state .entry)) (now (room .entry)) (zero-record-at row) (write-opening plain k [] (narrowed len len (announced n))) ⌝ }
+{
+    let fault = length_fault(len, len, n as usize);
+    if fault != 0 {
+        reply::refused(state, at, room, k, fault);
+        return;
+    }
+    open_parts(state, at, k, row, len, room);
 }
 
 fn open_on(
@@ -231,17 +228,17 @@ fn open_on(
     shape: u16,
     opening: Opening,
     m: &[u8],
-) -> [u8; 8]
-    requires { ⌜ Ready at (now values) (now block) (now state) × ((row < row-count) × (k ≡ key-at row) × (shape ≡ row-shape (at-row row))) × (length (now m) ≡ 8) × (message-of (now m) ≡ OpenWrite k opening) ⌝ }
-    ensures { λ r. ⌜ told (now (values .exit)) (now (block .exit)) (now (state .exit)) r ≡ answered at (now (values .entry)) (now (block .entry)) (now (state .entry)) (opens-write opening (now (m .entry)) row) ⌝ }
+    room: &mut [u8],
+)
+    requires { ⌜ Ready at (now values) (now block) (now state) (now room) × (Writable row × (find-row (k .index) (k .sub) ≡ At row) × (shape ≡ row-shape (at-row row))) × (length (now m) ≡ 8) × (heard-of (now m) ≡ Asks (OpenWrite k opening)) ⌝ }
+    ensures { λ _. ⌜ told (now (values .exit)) (now (block .exit)) (now (state .exit)) (now (room .exit)) ≡ message-told at (now (m .entry)) (now (values .entry)) (now (block .entry)) (now (state .entry)) (now (room .entry)) ⌝ }
 {
-    let kind = find::field::kind_in(shape);
     let len = find::field::len_in(shape);
     match opening {
-        Opening::Value(count) => write_sized(values, block, state, at, k, row, kind, len, m, count),
-        Opening::Own => write_own(values, block, state, at, k, row, kind, len, m),
-        Opening::Announced(n) => open_announced(state, at, k, row, len, n),
-        Opening::Unsaid => open_parts(state, at, k, row, len),
+        Opening::Value(count) => write_sized(values, block, state, at, k, row, len, m, sdo::VALUE_AT, count, room),
+        Opening::Own => write_own(values, block, state, at, k, row, len, m, sdo::VALUE_AT, sdo::VALUE, room),
+        Opening::Announced(n) => open_announced(state, at, k, row, len, n, room),
+        Opening::Unsaid => open_parts(state, at, k, row, len, room),
     }
 }
 
@@ -253,13 +250,14 @@ pub fn open_write(
     k: Key,
     opening: Opening,
     m: &[u8],
-) -> [u8; 8]
-    requires { ⌜ Ready at (now values) (now block) (now state) × (length (now m) ≡ 8) × (message-of (now m) ≡ OpenWrite k opening) ⌝ }
-    ensures { λ r. ⌜ told (now (values .exit)) (now (block .exit)) (now (state .exit)) r ≡ answered at (now (values .entry)) (now (block .entry)) (now (state .entry)) (through (write-gate (find-row (k .index) (k .sub))) k (opens-write opening (now (m .entry)))) ⌝ }
+    room: &mut [u8],
+)
+    requires { ⌜ Ready at (now values) (now block) (now state) (now room) × (length (now m) ≡ 8) × (heard-of (now m) ≡ Asks (OpenWrite k opening)) ⌝ }
+    ensures { λ _. ⌜ told (now (values .exit)) (now (block .exit)) (now (state .exit)) (now (room .exit)) ≡ message-told at (now (m .entry)) (now (values .entry)) (now (block .entry)) (now (state .entry)) (now (room .entry)) ⌝ }
 {
     let gate = gate::to_write(k.index, k.sub);
     match gate {
-        Gate::Open(row, shape) => open_on(values, block, state, at, k, row, shape, opening, m),
-        Gate::Shut(code) => reply::refused(state, at, k, code),
+        Gate::Open(row, shape) => open_on(values, block, state, at, k, row, shape, opening, m, room),
+        Gate::Shut(code) => reply::refused(state, at, room, k, code),
     }
 }

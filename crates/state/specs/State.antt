@@ -1,4 +1,4 @@
--- RULE: the 256 state bytes, as docs/STATE.md lays them out (R14.1): both transfer records and the trip states. Assumes nothing.
+-- RULE: the state bytes, as docs/STATE.md lays them out (R14.1): both transfer records and the trip states. Assumes nothing.
 use mathlib.Core.Bool.{Bool, cond}
 use mathlib.Core.List.{List, _++_}
 use Prim.Native.Nat.{ℕ, _+_, _*_}
@@ -9,13 +9,20 @@ use Rattle.wire.specs.Flags.{is-set, bit, flags}
 use Rattle.wire.specs.Splice.{splice}
 use Rattle.trip.specs.declared.Trips.{Trips}
 use Rattle.trip.specs.Trip.{all-off}
-use Rattle.sdo.specs.declared.Direction.{Direction}
-use Rattle.sdo.specs.declared.Direction.the-variants.{Neither, Reads, Writes}
-use Rattle.sdo.specs.declared.Transfer.{Transfer}
-use Rattle.sdo.specs.Records.{zero-record}
+use Rattle.transfer.specs.declared.Direction.{Direction}
+use Rattle.transfer.specs.declared.Direction.the-variants.{Neither, Reads, Writes}
+use Rattle.transfer.specs.declared.Transfer.{Transfer}
+use Rattle.transfer.specs.Records.{zero-record}
+
+-- how many they are, and how many a record has
+abbrev pub state-size : ℕ
+state-size = 256
+
+abbrev pub record-size : ℕ
+record-size = 70
 
 -- line 0's record, then line 1's
-unfoldable pub record-place : ℕ → ℕ
+abbrev pub record-place : ℕ → ℕ
 record-place line = 96 * line
 
 abbrev pub trips-place : ℕ
@@ -62,9 +69,9 @@ unfoldable pub trips-bytes : Trips → List ℕ
 trips-bytes t = flags (t .one .high) (t .one .low) (t .two .high) (t .two .low)
 
 -- power-up and device reset (R9.3)
-unfoldable pub dropped : List ℕ → List ℕ
-dropped state = splice (splice (splice state 0 (record-bytes zero-record)) 96 (record-bytes zero-record)) trips-place (trips-bytes all-off)
+unfoldable pub fresh-state : List ℕ → List ℕ
+fresh-state state = splice (splice (splice state (record-place 0) (record-bytes zero-record)) (record-place 1) (record-bytes zero-record)) trips-place (trips-bytes all-off)
 
 -- a message leaves its line's next record; a device reset drops both lines' transfers (R8.8). All else of the state stays (R6.1)
 unfoldable pub settled : ℕ → Transfer → Bool → List ℕ → List ℕ
-settled at next reset state = cond reset (dropped state) (splice state at (record-bytes next))
+settled at next reset state = cond reset (fresh-state state) (splice state at (record-bytes next))

@@ -1,7 +1,6 @@
-// The 256 state bytes: transfer records and trip states by value, and back.
-use sdo::Direction;
-use sdo::Transfer;
-use sdo::record;
+// The state bytes: transfer records and trip states by value, and back.
+use transfer::Direction;
+use transfer::Transfer;
 use trip::On;
 use trip::Trips;
 use wire::bit_of;
@@ -10,9 +9,16 @@ ghost use mathlib.Core.Path.{_≡_};
 ghost use Prim.Native.Nat.{_+_, _≤_};
 ghost use lib.ListN.{length, take, drop};
 ghost use Rattle.wire.specs.Splice.{splice};
-ghost use Rattle.sdo.specs.Records.{zero-record};
-ghost use Rattle.sdo.specs.Replies.{grown};
-ghost use Rattle.state.specs.State.{record-at, record-tail, record-bytes, trips-place, trips-at, trips-bytes, direction-of, direction-byte, dropped};
+ghost use Rattle.transfer.specs.Records.{zero-record};
+ghost use Rattle.transfer.specs.Turns.{grown};
+ghost use Rattle.state.specs.State.{record-at, record-tail, record-bytes, trips-place, trips-at, trips-bytes, direction-of, direction-byte, state-size, record-size, fresh-state};
+
+// How many they are, where each line's record and the trip states stand, and how many bytes a record has.
+pub const SIZE: usize = 256;
+pub const TOOL: usize = 0;
+pub const SERVICE: usize = 96;
+pub const RECORD: usize = 70;
+const TRIPS: usize = 192;
 
 fn direction_of(n: u8) -> Direction
     ensures { λ r. ⌜ r ≡ direction-of n ⌝ }
@@ -38,7 +44,7 @@ fn direction_byte(d: Direction) -> u8
 
 // The record that stands from a byte on.
 pub fn record_at(state: &[u8], at: usize) -> Transfer
-    requires { ⌜ at + 70 ≤ length (now state) ⌝ }
+    requires { ⌜ at + record-size ≤ length (now state) ⌝ }
     ensures { λ r. ⌜ r ≡ record-at (now (state .entry)) at ⌝ }
 {
     let mut held = [0u8; 64];
@@ -60,7 +66,7 @@ pub fn record_at(state: &[u8], at: usize) -> Transfer
 
 // What stands behind the held bytes: row, direction, length, place, toggle.
 fn put_tail(state: &mut [u8], at: usize, t: Transfer)
-    requires { ⌜ at + 70 ≤ length (now state) ⌝ }
+    requires { ⌜ at + record-size ≤ length (now state) ⌝ }
     ensures { λ _. ⌜ now (state .exit) ≡ splice (now (state .entry)) (at + 64) (record-tail t) ⌝ }
 {
     let direction = t.direction;
@@ -73,16 +79,16 @@ fn put_tail(state: &mut [u8], at: usize, t: Transfer)
 
 // Makes a record all zero.
 pub fn clear_record(state: &mut [u8], at: usize)
-    requires { ⌜ at + 70 ≤ length (now state) ⌝ }
+    requires { ⌜ at + record-size ≤ length (now state) ⌝ }
     ensures { λ _. ⌜ now (state .exit) ≡ splice (now (state .entry)) at (record-bytes zero-record) ⌝ }
 {
-    let zeros = [0u8; 70];
-    wire::copy_at(state, at, &zeros, 0, 70);
+    let zeros = [0u8; RECORD];
+    wire::copy_at(state, at, &zeros, 0, RECORD);
 }
 
 // Writes a record's 70 bytes.
 pub fn put_record(state: &mut [u8], at: usize, t: Transfer)
-    requires { ⌜ at + 70 ≤ length (now state) ⌝ }
+    requires { ⌜ at + record-size ≤ length (now state) ⌝ }
     ensures { λ _. ⌜ now (state .exit) ≡ splice (now (state .entry)) at (record-bytes t) ⌝ }
 {
     let held = t.held;
@@ -90,33 +96,22 @@ pub fn put_record(state: &mut [u8], at: usize, t: Transfer)
     put_tail(state, at, t);
 }
 
-// count bytes of message m, from its byte 1 on, to a place. Most parts have seven.
-fn copy_part(state: &mut [u8], place: usize, m: &[u8], count: usize)
-    requires { ⌜ (place + count ≤ length (now state)) × (length (now m) ≡ 8) × (count ≤ 7) ⌝ }
-    ensures { λ _. ⌜ now (state .exit) ≡ splice (now (state .entry)) place (take count (drop 1 (now (m .entry)))) ⌝ }
+// The record that stands there with the part of a write that is count bytes of m, from a byte on: only the part and what stands behind the
+// held bytes are written.
+pub fn put_part(state: &mut [u8], at: usize, t: Transfer, m: &[u8], from: usize, count: usize)
+    requires { ⌜ (at + record-size ≤ length (now state)) × (t ≡ record-at (now state) at) × (from + count ≤ length (now m)) × ((t .len ≤ 64) × (t .place + count ≤ t .len)) ⌝ }
+    ensures { λ _. ⌜ now (state .exit) ≡ splice (now (state .entry)) at (record-bytes (grown t (take count (drop from (now (m .entry)))))) ⌝ }
 {
-    if count == 7 {
-        wire::copy_seven(state, place, m, 1);
-    } else {
-        wire::copy_at(state, place, m, 1, count);
-    }
-}
-
-// The record that stands there with a part of a write: only the part and what stands behind the held bytes are written.
-pub fn put_part(state: &mut [u8], at: usize, t: Transfer, m: &[u8], count: usize)
-    requires { ⌜ (at + 70 ≤ length (now state)) × (t ≡ record-at (now state) at) × ((length (now m) ≡ 8) × (count ≤ 7)) × ((t .len ≤ 64) × (t .place + count ≤ t .len)) ⌝ }
-    ensures { λ _. ⌜ now (state .exit) ≡ splice (now (state .entry)) at (record-bytes (grown t (take count (drop 1 (now (m .entry)))))) ⌝ }
-{
-    copy_part(state, at + t.place, m, count);
-    put_tail(state, at, record::grown(t, m, count));
+    wire::copy_at(state, at + t.place, m, from, count);
+    put_tail(state, at, transfer::grown(t, m, from, count));
 }
 
 // The trip states, which stand in one word; a byte other than 0 is on.
 pub fn trips_at(state: &[u8]) -> Trips
-    requires { ⌜ length (now state) ≡ 256 ⌝ }
+    requires { ⌜ length (now state) ≡ state-size ⌝ }
     ensures { λ r. ⌜ r ≡ trips-at (now (state .entry)) ⌝ }
 {
-    let word = wire::word_at(state, 192);
+    let word = wire::word_at(state, TRIPS);
     let one = On {
         high: word % 256 != 0,
         low: word / 256 % 256 != 0,
@@ -129,20 +124,20 @@ pub fn trips_at(state: &[u8]) -> Trips
 }
 
 pub fn put_trips(state: &mut [u8], t: Trips)
-    requires { ⌜ length (now state) ≡ 256 ⌝ }
+    requires { ⌜ length (now state) ≡ state-size ⌝ }
     ensures { λ _. ⌜ now (state .exit) ≡ splice (now (state .entry)) trips-place (trips-bytes t) ⌝ }
 {
     let one = t.one;
     let two = t.two;
-    wire::put_flags(state, 192, one.high, one.low, two.high, two.low);
+    wire::put_flags(state, TRIPS, one.high, one.low, two.high, two.low);
 }
 
 // Both records all zero and the trips off.
 pub fn drop_all(state: &mut [u8])
-    requires { ⌜ length (now state) ≡ 256 ⌝ }
-    ensures { λ _. ⌜ now (state .exit) ≡ dropped (now (state .entry)) ⌝ }
+    requires { ⌜ length (now state) ≡ state-size ⌝ }
+    ensures { λ _. ⌜ now (state .exit) ≡ fresh-state (now (state .entry)) ⌝ }
 {
-    clear_record(state, 0);
-    clear_record(state, 96);
+    clear_record(state, TOOL);
+    clear_record(state, SERVICE);
     put_trips(state, trip::all_off());
 }

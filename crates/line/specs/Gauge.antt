@@ -1,9 +1,12 @@
 -- RULE: THE BOARD'S GAUGE: the plain gauge by its entries, as the lines are served with it. Assumes nothing.
 use Prim.Native.Nat.{ℕ}
+use mathlib.Core.List.{List}
 use lib.Ieee.{Float}
 use Rattle.sample.specs.Sample.{values-after, trips-after}
-use Rattle.sdo.specs.Lines.{Entries}
-use Rattle.gauge.specs.Memory.{Store, with-values}
+use Rattle.order.specs.Gauge.{Gauge}
+use Rattle.sdo.specs.Lines.{Entries, gauge}
+use Rattle.state.specs.State.{trips-at}
+use Rattle.gauge.specs.Memory.{Store, memory-of, with-values}
 use Rattle.gauge.specs.Whole.{read-whole, commit-whole, write-sizes}
 
 -- a sample (R10.1)
@@ -30,3 +33,10 @@ bag552 =
       commit = λ g k bytes. commit-whole g (k .index) (k .sub) bytes;
       sampled = sampled;
     }
+
+abbrev pub plain : Gauge
+plain = gauge bag552
+
+-- the store that the lent bytes stand for
+abbrev pub store-of : List ℕ → List ℕ → List ℕ → Store
+store-of values block state = record { memory = memory-of values block; trips = trips-at state }
