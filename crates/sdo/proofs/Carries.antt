@@ -3,9 +3,9 @@ use Prim.Native.Nat.{ℕ, _+_, _≤_}
 use native.Mathlib.Omega.{arith}
 use mathlib.Core.Path.{_≡_, refl}
 use mathlib.Core.Logic.{_⊎_}
-use mathlib.Core.Bool.{Bool, true, false, cond, not, Bool·beq, _&&_}
+use mathlib.Core.Bool.{Bool, true, false, cond, not, Bool·beq}
 use mathlib.Core.List.{List, [], _++_}
-use lib.Dec.{T, ltb, leb, leb→le}
+use lib.Dec.{ltb, leb}
 use lib.ListN.{length, take, drop, length-take}
 use lib.Seq.{take-length}
 use Rattle.order.specs.Talk.{Said, announced, unsaid, own, Request, open-read, next-part, expedited, open-write, send-part, give-up, unknown, Answer, opened, write-opened, part-taken, dropped, Read, value, denied, Sizes, sizes, closed, Outcome, stored, restarted, declined, Pending, idle, reading, writing}
@@ -15,6 +15,7 @@ use Rattle.order.specs.Bytes.{Clear}
 use Rattle.sdo.specs.declared.Key.{Key}
 use Rattle.sdo.specs.Eight.{answer-of, Code, DropCode, Carried, short, eight}
 use Rattle.sdo.specs.Lines.{Entries, gauge, Sound, two-lines}
+use Rattle.sdo.proofs.Facts.{short-bounds}
 use Rattle.sdo.proofs.RoundTrip.{round, answer-eight}
 
 long-code : Code too-long
@@ -78,21 +79,16 @@ module _ (E : Entries) (S : Sound E) where
   carries-cond true r r′ h h′ = h
   carries-cond false r r′ h h′ = h′
 
-  both-true : (a b : Bool) → T (a && b) → T a × T b
-  both-true true true t = (tt, tt)
-  both-true true false t = absurd t
-  both-true false b t = absurd t
-
   carries-read-opening : (g : E .Store) (k : Key) (r : Read) → E .read-whole g k ≡ r → Carried ((read-opening P eight k r) .answer)
   unfolding eight read-opening
-  carries-read-opening g k (value bytes) e = go (short (length bytes)) (both-true (leb 1 (length bytes)) (leb (length bytes) 4))
+  carries-read-opening g k (value bytes) e = go (short (length bytes)) (short-bounds (length bytes))
     where
       n : ℕ
       n = length bytes
 
-      go : (d : Bool) → (T d → T (leb 1 n) × T (leb n 4))
+      go : (d : Bool) → (d ≡ true → (1 ≤ n) × (n ≤ 4))
           → Carried ((cond d (over P (opened k n (take (cond d n 0) bytes) true)) (onwards P (reading k bytes (cond d n 0) false) (opened k n (take (cond d n 0) bytes) false))) .answer)
-      go true h = rw take-length (refl, leb→le 1 n ((h tt) .0), leb→le n 4 ((h tt) .1))
+      go true h = rw take-length (refl, (h refl) .0, (h refl) .1)
       go false h = (refl, S .value-fits g k bytes e)
   carries-read-opening g k (denied c) e = S .read-code g k c e
 

@@ -6,12 +6,13 @@ use mathlib.Core.Logic.{_⊎_, inl, inr}
 use mathlib.Core.Bool.{Bool, true, false}
 use mathlib.Core.List.{List, [], _∷_, _++_}
 use lib.Dec.{eqb}
-use lib.ListN.{length, take, replicate, length-append, length-replicate}
+use lib.ListN.{length, take, getD, replicate, length-append, length-replicate}
 use lib.Seq.{take-at}
 use borrow.Author.Tests.{ne-eqb, lt-ltb, le-ltb}
 use Rattle.wire.specs.Little.{little, fromLittle, number}
 use Rattle.wire.proofs.LittleLaws.{byte-split, from-little}
 use Rattle.order.specs.Talk.{Answer, opened, part-given, write-opened, part-taken, refused, dropped, no-transfer, silent}
+use Rattle.order.specs.Promise.{is-abort}
 use Rattle.sdo.specs.declared.Key.{Key}
 use Rattle.sdo.specs.Eight.{has, one, transfer-code, answer-of, tell-of, Carried}
 
@@ -83,3 +84,20 @@ answer-eight (refused k c) h = inr refl
 answer-eight (dropped k c) h = inr refl
 answer-eight no-transfer h = inr refl
 answer-eight silent h = inl refl
+
+-- bytes that begin with 80 are an abort's
+pub abort-told : (t : Answer Key) → getD (answer-of t) 0 0 ≡ 0x80 → is-abort t ≡ true
+unfolding answer-of is-abort
+abort-told (opened k n bytes true) e = absurd (omega (arith, e))
+abort-told (opened k n bytes false) e = absurd (omega (arith, e))
+abort-told (part-given true bytes true) e = absurd (omega (arith, e))
+abort-told (part-given true bytes false) e = absurd (omega (arith, e))
+abort-told (part-given false bytes true) e = absurd (omega (arith, e))
+abort-told (part-given false bytes false) e = absurd (omega (arith, e))
+abort-told (write-opened k) e = absurd (omega (arith, e))
+abort-told (part-taken true) e = absurd (omega (arith, e))
+abort-told (part-taken false) e = absurd (omega (arith, e))
+abort-told (refused k c) e = refl
+abort-told (dropped k c) e = refl
+abort-told no-transfer e = refl
+abort-told silent e = absurd (omega (arith, e))

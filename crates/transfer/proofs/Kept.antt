@@ -6,17 +6,19 @@ use mathlib.Core.Logic.{_⊎_}
 use mathlib.Core.Bool.{Bool, true, false, cond, not, Bool·beq}
 use mathlib.Core.List.{List, _++_}
 use lib.Dec.{T, ltb, leb, nleb→lt, nltb→le}
-use lib.ListN.{length}
+use lib.ListN.{length, getD}
 use Rattle.order.specs.Talk.{Said, announced, unsaid, own, Request, open-read, next-part, expedited, open-write, send-part, give-up, unknown, Answer, write-opened, part-taken, dropped, Read, value, denied, Sizes, sizes, closed, Outcome, stored, restarted, declined, Pending, idle, reading, writing}
 use Rattle.order.specs.Gauge.{Gauge, too-long, too-short, narrow, counted, say, judged, judged-by, allowed, write-whole}
 use Rattle.order.specs.Serve.{Form, toggle-code, left, Reply, over, read-opening, give-part, read-part, take-more, write-opening, keeping, conclude, take-part, write-part, serve}
 use Rattle.order.specs.Keep.{speak, Again, Keeps}
+use Rattle.order.proofs.Kept.{abort-drops}
 use Rattle.sdo.specs.declared.Key.{Key}
 use Rattle.sdo.specs.Eight.{ask-of, eight, eight-bytes}
 use Rattle.sdo.specs.Lines.{Entries, gauge, Line, two-lines}
+use Rattle.sdo.proofs.RoundTrip.{abort-told}
 use Rattle.transfer.specs.declared.Direction.the-variants.{Reads, Writes}
 use Rattle.transfer.specs.declared.Transfer.{Transfer}
-use Rattle.transfer.specs.Records.{zero-record, row-of, RowOf, counts, view, base, transfers, GoodAfter, Rows}
+use Rattle.transfer.specs.Records.{zero-record, row-of, RowOf, counts, view, base, lay, transfers, GoodAfter, Rows}
 use Rattle.transfer.proofs.RecordLaws.{Fits, row-fits, fits-row, Valid, view-zero, view-lay, Whole, valid-view, whole-lay, whole-base, lay-served}
 
 module _ (E : Entries) (R : Rows E) where
@@ -177,7 +179,7 @@ module _ (E : Entries) (R : Rows E) where
 
   -- ---- one message on a line
 
-  module _ (g : E .Store) (ok : R .Good g) (t : Transfer) (w : Whole t) (m : List ℕ) where
+  module _ (g : E .Store) (ok : R .Good g) (t : Transfer) (m : List ℕ) (w : Whole t) where
     leaves : Valid ((base t (ask-of m)) .row) (left ((serve P eight g (view t) (ask-of m)) .after))
     leaves = valid-serve eight g t (view t) (ask-of m) ok (valid-view t w)
 
@@ -203,6 +205,12 @@ module _ (E : Entries) (R : Rows E) where
         Whole = Whole;
         empty-whole = refl;
         empty-idle = view-zero;
-        again = λ l g t m ok w. again g ok t w m l;
+        again = λ l g t m ok w. again g ok t m w l;
         sample-good = R .sample-good;
       }
+
+-- THEOREM: every abort drops its transfer (R6.2) and leaves the store as it was (R7.10)
+pub abort-clears : (E : Entries) (g : E .Store) (t : Transfer) (m : List ℕ) → getD ((speak (gauge E) transfers eight-bytes g t m) .bytes) 0 0 ≡ 0x80
+    → speak (gauge E) transfers eight-bytes g t m ≡ record { store = g; next = zero-record; reset = false; bytes = (speak (gauge E) transfers eight-bytes g t m) .bytes }
+unfolding speak lay
+abort-clears E g t m e = abort-drops (gauge E) transfers eight-bytes g t m (abort-told ((serve (gauge E) eight g (view t) (ask-of m)) .answer) e)
