@@ -41,6 +41,7 @@ use Rattle.sdo.specs.Eight.{Code}
 use Rattle.sdo.specs.Lines.{Sound}
 use Rattle.sdo.proofs.Carries.{Coded, CodedSizes, clear}
 use Rattle.transfer.specs.Records.{allows, RowOf, transfers, GoodAfter, Rows}
+use Rattle.transfer.proofs.RecordLaws.{Whole}
 use Rattle.transfer.proofs.Kept.{keeps}
 use Rattle.line.specs.Gauge.{sampled, bag552}
 use Rattle.demand3.specs.Firmware.{setup, powered-store}
@@ -253,11 +254,10 @@ commit-good g k bytes ok w = rw (commit-by-gate (k .index) (k .sub) g bytes, w .
         trips-good g (commit-row (w .row) bytes (g .memory))
         (commit-sized (w .row) (find-at (k .index) (k .sub) (w .row) (w .found) .there) bytes (w .length-is) (g .memory) ok)
 
-pub real-rows : Rows bag552
+pub real-rows : Rows bag552 GoodStore
 unfolding ReadRow WriteRow sampled
 real-rows =
     record {
-      Good = GoodStore;
       read-row = λ g k bytes ok e. subst (ReadRow k) (sym (read-by-gate (k .index) (k .sub) g) ∙ e) (read-row k (find-row (k .index) (k .sub)) (g .memory .values) (ok .values-are) refl);
       write-row = λ k low high e. subst (WriteRow k) (sym (sizes-by-gate (k .index) (k .sub)) ∙ e) (write-row k (find-row (k .index) (k .sub)) refl);
       commit-good = commit-good;
@@ -268,21 +268,13 @@ real-rows =
           };
     }
 
-pub good : (g : Store) → GoodStore g → real-rows .Good g
-unfolding real-rows
-good g ok = ok
-
-pub good-is : (g : Store) → real-rows .Good g → GoodStore g
-unfolding real-rows
-good-is g ok = ok
-
 pub powered-good : (block : List ℕ) → length block ≡ 512 → GoodStore (powered-store block)
 powered-good block n = record { values-are = fresh-long _; block-is = n }
 
 -- what the two lines keep in their records
-pub kept-records : Keeps setup transfers
+pub kept-records : Keeps setup transfers GoodStore Whole
 kept-records = keeps bag552 real-rows
 
 -- THEOREM: demand 3 for the board with its records by value, for every list of messages and samples from power-up
 pub demand3-board : (block : List ℕ) → length block ≡ 512 → (cs : List (Call setup)) → Demand3Records setup transfers (powered-store block) cs
-demand3-board block n cs = demand3-records setup transfers kept-records (clear bag552 sound) (powered-store block) (good (powered-store block) (powered-good block n)) cs
+demand3-board block n cs = demand3-records setup transfers kept-records (clear bag552 sound) (powered-store block) (powered-good block n) cs

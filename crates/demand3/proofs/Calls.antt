@@ -37,7 +37,7 @@ use Rattle.board.specs.Calls.{Called, Fed, sized, called, number-by, served, me
 use Rattle.board.proofs.CallLaws.{place-most, all-sized, no-line, no-room, no-message, is-served}
 use Rattle.demand3.specs.Firmware.{setup, Arrays, arrays, Exported, to-message, to-sample, to-image, Back, back, by-message, by-sample, exported, history, final, power-on, line-of, answer-by, write-seen-ended, Answered, event-of, with-event, events, calls-in, observed, powered-store, store-in, line-place, board-in, Demand3Calls}
 use Rattle.demand3.proofs.Lengths.{values-long, fresh-long}
-use Rattle.demand3.proofs.Bag552.{sound, real-rows, GoodStore, good, good-is, kept-records, demand3-board}
+use Rattle.demand3.proofs.Bag552.{sound, real-rows, GoodStore, kept-records, demand3-board}
 use Rattle.demand3.proofs.Trips.{trips-kept}
 use Rattle.demand3.proofs.StateBytes.{record-long, record-back, record-beside, trips-long, trips-back, trips-beside}
 
@@ -99,7 +99,7 @@ module _ (s : List ℕ) (long : length s ≡ 256) where
 
 -- ---- one message: the arrays that it leaves stand for the board that `record-call` leaves
 
-Records : Type 0
+abbrev Records : Type 0
 Records = Line → Transfer
 
 -- two boards' records, line by line
@@ -168,14 +168,19 @@ module _ (a : Arrays) (ok : Lent a) (line : ℕ) (on-line : line ≤ 1) (m : Lis
   own-whole = whole-at (a .state) (record-place line) (ok .state-is) (place-most line on-line)
 
   -- what the message leaves is good and whole
-  again : Again setup transfers (real-rows .Good) Whole (line-of line) (store-in a) own m
-  again = kept-records .again (line-of line) (store-in a) own m (good (store-in a) (ok .memory-sized)) own-whole
+  again : Again setup transfers GoodStore Whole (line-of line) (store-in a) own m
+  again = kept-records .again (line-of line) (store-in a) own m (ok .memory-sized) own-whole
 
   next-long : Whole (said .next)
   next-long = again .whole
 
   next-small : Small (said .next)
-  next-small = served-small (said .next) (next-served bag552 real-rows (store-in a) (good (store-in a) (ok .memory-sized)) own m own-whole)
+  next-small = served-small (said .next) (next-served bag552 real-rows (store-in a) (ok .memory-sized) own m own-whole)
+
+  -- its answer is eight bytes, or none
+  said-eight : (said .bytes ≡ []) ⊎ (length (said .bytes) ≡ 8)
+  unfolding speak
+  said-eight = spoken-eight bag552 sound (store-in a) (view own) (ask-of m)
 
   store-after : said .store ≡ store-in after
   store-after =
@@ -193,7 +198,7 @@ module _ (a : Arrays) (ok : Lent a) (line : ℕ) (on-line : line ≤ 1) (m : Lis
   after-lent : Lent after
   after-lent =
       record {
-        memory-sized = good-is (store-in after) (subst (real-rows .Good) store-after (again .good));
+        memory-sized = subst GoodStore store-after (again .good);
         state-is = settled-long (a .state) (ok .state-is) line on-line (said .next) next-long next-small (said .reset);
       }
 
@@ -225,7 +230,7 @@ module _ (a : Arrays) (ok : Lent a) (line : ℕ) (m room : List ℕ) where
   fine-served h = (
     after-lent a ok line h m,
     subst (λ (o : Option (List ℕ)). Seen (board-in a) (board-in (after a ok line h m)) (Option·map (λ bytes. (heard (line-of line) m, bytes)) o))
-        (sym (answer-read (said a ok line h m .bytes) room (spoken-eight bag552 sound (store-in a) (view (own a ok line h m)) (ask-of m)))) (message-follows a ok line h m),
+        (sym (answer-read (said a ok line h m .bytes) room (said-eight a ok line h m))) (message-follows a ok line h m),
   )
 
   -- a message call is refused by 1, 2 or 3, or served
@@ -260,7 +265,7 @@ module _ (a : Arrays) (ok : Lent a) (line : ℕ) (m room : List ℕ) where
       let bytes : List ℕ = said a ok line h m .bytes in
       sym (store-after a ok line h m)
       ∙ unfinished plain transfers eight-bytes (store-in a) (own a ok line h m) m (clear bag552 sound (line-of line) m (store-in a) (view (own a ok line h m)) (ask-of m))
-      (subst (λ (o : Option (List ℕ)). write-seen-ended m o ≡ false) (answer-read bytes room (spoken-eight bag552 sound (store-in a) (view (own a ok line h m)) (ask-of m))) e)
+      (subst (λ (o : Option (List ℕ)). write-seen-ended m o ≡ false) (answer-read bytes room (said-eight a ok line h m)) e)
 
   -- THEOREM: a transfer that is under way, refused or dropped changes no value, no byte of the block and no trip state
   pub unfinished-leaves : Leaves (exported a c)

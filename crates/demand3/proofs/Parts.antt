@@ -18,7 +18,7 @@ use Rattle.transfer.specs.Records.{view, transfers}
 use Rattle.line.specs.Gauge.{bag552}
 use Rattle.board.specs.Calls.{power-up-call}
 use Rattle.demand3.specs.Firmware.{setup, Arrays, Exported, to-message, Back, exported, history, final, power-on, line-of, answer-by, Answered, event-of, calls-in, board-in, arrays-after, value-got, ReadOpened, ExactParts}
-use Rattle.demand3.proofs.Bag552.{sound, good, kept-records}
+use Rattle.demand3.proofs.Bag552.{sound, kept-records}
 use Rattle.demand3.proofs.Calls.{Lent, whole-board, Seen, fine, told, powered-lent}
 
 module _ (a : Arrays) (ok : Lent a) (line : ℕ) (m room bytes : List ℕ) (cs : List Exported) (r : ReadOpened a line m room bytes cs) where
@@ -49,11 +49,11 @@ module _ (a : Arrays) (ok : Lent a) (line : ℕ) (m room bytes : List ℕ) (cs :
   parts = record { right = r .right; calm = subst (λ (b : RecordBoard setup transfers). NoReset setup transfers b ds) from-is (r .calm) }
 
   -- the board of lines that the arrays stand for
-  seen : Board setup
+  abbrev seen : Board setup
   seen = record { store = board-in a .store; lines = λ l. view (board-in a .records l) }
 
   shows : Shows setup transfers kept-records (board-in a) seen
-  shows = record { same-store = refl; same-lines = λ l. refl; good = good (board-in a .store) (ok .memory-sized); whole = whole-board a ok }
+  shows = record { same-store = refl; same-lines = λ l. refl; good = ok .memory-sized; whole = whole-board a ok }
 
   -- more than four bytes: the opening carries none
   none-carried : eight .carried (length bytes) ≡ 0

@@ -37,7 +37,7 @@ module _ (P : Gauge) (R : Keeping (P .Key)) (H : Speech (P .Key) (P .Name)) (g :
 
 -- ---- the two boards, call by call
 
-module _ (S : Setup) (R : Keeping (S .gauge .Key)) (K : Keeps S R) where
+module _ (S : Setup) (R : Keeping (S .gauge .Key)) {Good : S .gauge .Store → Type 0} {Whole : R .Record → Type 0} (K : Keeps S R Good Whole) where
   abbrev P : Gauge
   P = S .gauge
 
@@ -45,10 +45,10 @@ module _ (S : Setup) (R : Keeping (S .gauge .Key)) (K : Keeps S R) where
   pub record Shows (b : RecordBoard S R) (d : Board S) : Type 0 where
     pub same-store : b .store ≡ d .store
     pub same-lines : (l : S .wires .Line) → R .view (b .records l) ≡ S .wires .at (d .lines) l
-    pub good : K .Good (b .store)
-    pub whole : (l : S .wires .Line) → K .Whole (b .records l)
+    pub good : Good (b .store)
+    pub whole : (l : S .wires .Line) → Whole (b .records l)
 
-  pub shows-start : (g : P .Store) → K .Good g → Shows (record-start S R g) (start S g)
+  pub shows-start : (g : P .Store) → Good g → Shows (record-start S R g) (start S g)
   shows-start g ok = record { same-store = refl; same-lines = λ l. K .empty-idle ∙ sym (S .wires .at-clear l); good = ok; whole = λ l. K .empty-whole }
 
   -- after a message of line l, which leaves t there, each record stands for what its line holds
@@ -63,13 +63,13 @@ module _ (S : Setup) (R : Keeping (S .gauge .Key)) (K : Keeps S R) where
       go (no q) = h ∙ sym (S .wires .at-other ls l n x q)
 
   -- and all are whole
-  whole-after : (rs : S .wires .Line → R .Record) (l n : S .wires .Line) (t : R .Record) (wipes : Bool) → K .Whole t → K .Whole (rs n)
-      → K .Whole (cond wipes (λ m. R .empty) (put-at (S .wires .same) rs l t) n)
+  whole-after : (rs : S .wires .Line → R .Record) (l n : S .wires .Line) (t : R .Record) (wipes : Bool) → Whole t → Whole (rs n)
+      → Whole (cond wipes (λ m. R .empty) (put-at (S .wires .same) rs l t) n)
   unfolding put-at
   whole-after rs l n t true w h = K .empty-whole
   whole-after rs l n t false w h = go (S .wires .same n l)
     where
-      go : (d : Dec (n ≡ l)) → K .Whole (if-same d t (rs n))
+      go : (d : Dec (n ≡ l)) → Whole (if-same d t (rs n))
       go (yes e) = w
       go (no e) = h
 
@@ -109,7 +109,7 @@ module _ (S : Setup) (R : Keeping (S .gauge .Key)) (K : Keeps S R) where
       t′ : R .Record
       t′ = R .lay (b .records l) (S .speech l .ask m) (left (s .after))
 
-      again : Again S R (K .Good) (K .Whole) l (b .store) (b .records l) m
+      again : Again S R Good Whole l (b .store) (b .records l) m
       again = K .again l (b .store) (b .records l) m (w .good) (w .whole l)
 
       e : s ≡ served-on S d l (S .speech l .ask m)
@@ -152,7 +152,7 @@ module _ (S : Setup) (R : Keeping (S .gauge .Key)) (K : Keeps S R) where
 
   module _ (clear : Clear S) where
     -- THEOREM: demand 3, of the board with its records, for every list of calls from any good store with no transfer under way
-    pub demand3-records : (g : P .Store) → K .Good g → (cs : List (Call S)) → Demand3Records S R g cs
+    pub demand3-records : (g : P .Store) → Good g → (cs : List (Call S)) → Demand3Records S R g cs
     demand3-records g ok cs =
         let d : SerialBytes S g cs = serial-bytes S clear g cs in
         let w : Shows (record-start S R g) (start S g) = shows-start g ok in

@@ -105,16 +105,16 @@ module _ (S : Setup) (R : Keeping (S .gauge .Key)) where
 
   -- ---- what is asked of a keeping
 
-  -- what a message leaves is seen again in the record that is kept; `Good` is asked of the store, `Whole` of a record
-  pub record Again (Good : S .gauge .Store → Type 0) (Whole : R .Record → Type 0) (l : S .wires .Line) (g : S .gauge .Store) (t : R .Record) (m : List ℕ) : Type 0 where
-    pub good : Good ((speak (S .gauge) R (S .speech l) g t m) .store)
-    pub whole : Whole ((speak (S .gauge) R (S .speech l) g t m) .next)
-    pub seen : R .view ((speak (S .gauge) R (S .speech l) g t m) .next) ≡ left ((serve (S .gauge) (S .speech l .form) g (R .view t) (S .speech l .ask m)) .after)
+  -- `Good` is asked of the store, `Whole` of a record
+  module _ (Good : S .gauge .Store → Type 0) (Whole : R .Record → Type 0) where
+    -- what a message leaves is seen again in the record that is kept
+    pub record Again (l : S .wires .Line) (g : S .gauge .Store) (t : R .Record) (m : List ℕ) : Type 0 where
+      pub good : Good ((speak (S .gauge) R (S .speech l) g t m) .store)
+      pub whole : Whole ((speak (S .gauge) R (S .speech l) g t m) .next)
+      pub seen : R .view ((speak (S .gauge) R (S .speech l) g t m) .next) ≡ left ((serve (S .gauge) (S .speech l .form) g (R .view t) (S .speech l .ask m)) .after)
 
-  pub record Keeps : Type 1 where
-    pub Good : S .gauge .Store → Type 0
-    pub Whole : R .Record → Type 0
-    pub empty-whole : Whole (R .empty)
-    pub empty-idle : R .view (R .empty) ≡ idle
-    pub again : (l : S .wires .Line) (g : S .gauge .Store) (t : R .Record) (m : List ℕ) → Good g → Whole t → Again Good Whole l g t m
-    pub sample-good : (g : S .gauge .Store) (s : S .gauge .Sample) → Good g → Good (S .gauge .sampled g s)
+    pub record Keeps : Type 0 where
+      pub empty-whole : Whole (R .empty)
+      pub empty-idle : R .view (R .empty) ≡ idle
+      pub again : (l : S .wires .Line) (g : S .gauge .Store) (t : R .Record) (m : List ℕ) → Good g → Whole t → Again l g t m
+      pub sample-good : (g : S .gauge .Store) (s : S .gauge .Sample) → Good g → Good (S .gauge .sampled g s)
