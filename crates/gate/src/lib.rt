@@ -1,8 +1,10 @@
 // What may be read and written: the table's checks of a key, index, subindex and access; and the setup lock.
+pub mod code;
 pub mod lock;
 
 use find::Sought;
 use find::field;
+use table::access;
 ghost use mathlib.Core.Path.{_≡_};
 ghost use Rattle.table.specs.Find.{find-row};
 ghost use Rattle.gate.specs.Gates.{gate, read-gate, write-gate, way-of, Shaped};
@@ -25,19 +27,19 @@ fn way(index: u16, sub: u8, barred: u8, code: u32) -> Gate
             }
             Gate::Open(row, shape)
         }
-        Sought::NoIndex => Gate::Shut(0x06020000),
-        Sought::NoSub => Gate::Shut(0x06090011),
+        Sought::NoIndex => Gate::Shut(code::INDEX_ABSENT),
+        Sought::NoSub => Gate::Shut(code::SUBINDEX_ABSENT),
     }
 }
 
 pub fn to_read(index: u16, sub: u8) -> Gate
     ensures { λ r. ⌜ (way-of r ≡ read-gate (find-row index sub)) × Shaped r ⌝ }
 {
-    way(index, sub, 2, 0x06010001)
+    way(index, sub, access::WO, code::WRITE_ONLY)
 }
 
 pub fn to_write(index: u16, sub: u8) -> Gate
     ensures { λ r. ⌜ (way-of r ≡ write-gate (find-row index sub)) × Shaped r ⌝ }
 {
-    way(index, sub, 1, 0x06010002)
+    way(index, sub, access::RO, code::READ_ONLY)
 }
