@@ -7,6 +7,7 @@ use sdo::Key;
 use sdo::Transfer;
 use sdo::answer;
 use sdo::record;
+use table::kind;
 ghost use mathlib.Core.Bool.{true};
 ghost use mathlib.Core.Path.{_≡_};
 ghost use Prim.Native.Nat.{_+_, _≤_, _<_};
@@ -65,7 +66,7 @@ fn short_answer(values: &[u8], k: Key, row: usize, kind: u8, len: usize) -> [u8;
     requires { ⌜ (length (now values) ≡ 1024) × ((row < row-count) × (k ≡ key-at row)) × (kind ≡ at-row row .kind) × (len ≡ at-row row .len) × ((1 ≤ len) × (len ≤ 4)) ⌝ }
     ensures { λ r. ⌜ r ≡ answer-of (opened k len (value-of (at-row row) (now (values .entry))) true) ⌝ }
 {
-    if kind < 7 {
+    if kind < kind::CARD {
         let place = find::field::place_of(row);
         return answer::opened_short(k, &values[place..place + len], len);
     }

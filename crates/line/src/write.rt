@@ -1,6 +1,7 @@
 // Writes on a line: openings, with the value or without, and parts.
 use crate::reply;
 use gate::Gate;
+use gate::code;
 use gauge::commit::Ending;
 use sdo::Direction;
 use sdo::Key;
@@ -89,11 +90,11 @@ fn take_part(
     let place = t.place;
     let eight = answer::part_taken(t.toggle);
     if len < place + count {
-        return reply::refused(state, at, record::key_at(row), 0x06070012);
+        return reply::refused(state, at, record::key_at(row), code::TOO_LONG);
     }
     if last {
         if place + count < len {
-            return reply::refused(state, at, record::key_at(row), 0x06070013);
+            return reply::refused(state, at, record::key_at(row), code::TOO_SHORT);
         }
         let next = record::grown(t, m, count);
         let held = next.held;
@@ -148,10 +149,10 @@ fn open_announced(state: &mut [u8], at: usize, k: Key, row: usize, len: usize, n
 {
     let said = n as usize;
     if len < said {
-        return reply::refused(state, at, k, 0x06070012);
+        return reply::refused(state, at, k, code::TOO_LONG);
     }
     if said < len {
-        return reply::refused(state, at, k, 0x06070013);
+        return reply::refused(state, at, k, code::TOO_SHORT);
     }
     open_parts(state, at, k, row, len)
 }
@@ -192,10 +193,10 @@ fn write_sized(
     ensures { λ r. ⌜ told (now (values .exit)) (now (block .exit)) (now (state .exit)) r ≡ answered at (now (values .entry)) (now (block .entry)) (now (state .entry)) (expedited-reply row (announced count) (take count (drop 4 (now (m .entry))))) ⌝ }
 {
     if len < count {
-        return reply::refused(state, at, k, 0x06070012);
+        return reply::refused(state, at, k, code::TOO_LONG);
     }
     if count < len {
-        return reply::refused(state, at, k, 0x06070013);
+        return reply::refused(state, at, k, code::TOO_SHORT);
     }
     with_value(values, block, state, at, k, row, kind, len, m)
 }
@@ -216,7 +217,7 @@ fn write_own(
     ensures { λ r. ⌜ told (now (values .exit)) (now (block .exit)) (now (state .exit)) r ≡ answered at (now (values .entry)) (now (block .entry)) (now (state .entry)) (expedited-reply row own (take 4 (drop 4 (now (m .entry))))) ⌝ }
 {
     if 4 < len {
-        return reply::refused(state, at, k, 0x06070013);
+        return reply::refused(state, at, k, code::TOO_SHORT);
     }
     with_value(values, block, state, at, k, row, kind, len, m)
 }
