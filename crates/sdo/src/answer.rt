@@ -9,6 +9,8 @@ ghost use Rattle.order.specs.Talk.{opened, part-given, write-opened, part-taken
 ghost use Rattle.sdo.specs.Eight.{one, answer-of};
 ghost use Rattle.sdo.specs.Lines.{short};
 
+const WRONG_TOGGLE: u32 = 0x05030000;
+
 pub fn abort(k: Key, code: u32) -> [u8; 8]
     ensures { λ r. ⌜ r ≡ answer-of (refused k code) ⌝ }
 {
@@ -30,7 +32,7 @@ pub fn abort(k: Key, code: u32) -> [u8; 8]
 pub fn wrong_toggle(k: Key) -> [u8; 8]
     ensures { λ r. ⌜ r ≡ answer-of (wrong-toggle k) ⌝ }
 {
-    abort(k, 0x05030000)
+    abort(k, WRONG_TOGGLE)
 }
 
 pub fn no_transfer() -> [u8; 8]
