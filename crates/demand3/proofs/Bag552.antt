@@ -24,7 +24,7 @@ use Rattle.entry.specs.Limits.{verdict-code}
 use Rattle.entry.specs.Entry.{entry-of}
 use Rattle.entry.proofs.RowLaws.{held-most}
 use Rattle.card.proofs.Made.{length-card}
-use Rattle.gate.specs.Codes.{write-only, read-only}
+use Rattle.table.specs.Codes.{write-only, read-only}
 use Rattle.gate.specs.Gates.{Way, to-row, no-way, gate, read-gate, write-gate}
 use Rattle.command.specs.Words.{command-at, read-word, word-of, same-bytes}
 use Rattle.command.specs.declared.word.Command.{Command}
