@@ -28,12 +28,12 @@ drop-code : DropCode toggle-code
 drop-code = record { before = omega arith; not-transfer = refl }
 
 -- a refused write has a code, and so has an entry that is closed
-unfoldable Coded : {S : Type 0} → Outcome S → Type 0
+unfoldable pub Coded : {S : Type 0} → Outcome S → Type 0
 Coded (stored g) = Unit {0}
 Coded (restarted g) = Unit {0}
 Coded (declined c) = Code c
 
-unfoldable CodedSizes : Sizes → Type 0
+unfoldable pub CodedSizes : Sizes → Type 0
 CodedSizes (sizes low high) = Unit {0}
 CodedSizes (closed c) = Code c
 
