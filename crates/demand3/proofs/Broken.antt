@@ -6,8 +6,7 @@ use lib.ListN.{getD, replicate}
 use Rattle.order.specs.Talk.{Result, gave, yes!, code, taken}
 use Rattle.order.specs.Gauge.{results}
 use Rattle.order.specs.Promise.{ops-of, got-of}
-use Rattle.sdo.specs.Lines.{gauge}
-use Rattle.board.specs.Gauge.{bag552}
+use Rattle.line.specs.Gauge.{plain}
 use Rattle.demand3.specs.Firmware.{Exported, Back, observed, powered-store}
 use Rattle.demand3.specs.Open.{opened, observer-opened}
 use Rattle.demand3.specs.Conversation.{Case, asks, expects, label-read}
@@ -18,7 +17,7 @@ abbrev told : List Case → List (Exported × Back)
 told cs = map (λ (c : Case). (asks c, expects c)) cs
 
 abbrev Plain : List Case → Type 0
-Plain cs = results (gauge bag552) (powered-store (replicate 512 0)) (ops-of (gauge bag552) (observed (told cs))) ≡ got-of (gauge bag552) (observed (told cs))
+Plain cs = results plain (powered-store (replicate 512 0)) (ops-of plain (observed (told cs))) ≡ got-of plain (observed (told cs))
 
 -- the first byte of the value that the n-th operation got
 first-byte : Result → ℕ

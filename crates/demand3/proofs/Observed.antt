@@ -9,16 +9,17 @@ use Rattle.order.specs.Talk.{announced, gave, yes! }
 use Rattle.order.specs.Gauge.{read, write}
 use Rattle.order.specs.Observe.{Done}
 use Rattle.sdo.specs.declared.Key.{Key}
-use Rattle.sdo.specs.Lines.{gauge, tool}
-use Rattle.sdo.specs.Records.{record-call}
-use Rattle.board.specs.Gauge.{bag552}
+use Rattle.order.specs.Keep.{record-call}
+use Rattle.sdo.specs.Lines.{tool}
+use Rattle.transfer.specs.Records.{transfers}
+use Rattle.line.specs.Gauge.{plain}
 use Rattle.demand3.specs.Firmware.{Exported, to-message, Back, back, history, observed, arrays-after, value-got, ReadOpened}
 use Rattle.demand3.specs.Open.{opened, observer-opened}
 use Rattle.demand3.specs.Conversation.{Case, on, asks, powered}
 use Rattle.demand3.specs.Examples.{label-changed, case-J}
 use Rattle.demand3.specs.CoatingShop.{old-pair, new-pair, saved-before, read-across-load, story}
 
-abbrev seen-in : List Case → List (Done (gauge bag552))
+abbrev seen-in : List Case → List (Done plain)
 seen-in cs = observed (history powered (map asks cs))
 
 abbrev entry : ℕ → ℕ → Key
@@ -30,10 +31,10 @@ label = entry 0x2001 0
 abbrev card : Key
 card = entry 0x2010 0
 
-abbrev did : Key → List ℕ → Done (gauge bag552)
+abbrev did : Key → List ℕ → Done plain
 did k bytes = (write k (announced (length bytes)) bytes, yes!)
 
-abbrev got : Key → List ℕ → Done (gauge bag552)
+abbrev got : Key → List ℕ → Done plain
 got k bytes = (read k, gave bytes)
 
 -- the read that was opened first stands first, with the old label; then the write; then the read of the new one

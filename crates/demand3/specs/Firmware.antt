@@ -7,22 +7,28 @@ use mathlib.Core.List.{List, [], _∷_, map}
 use mathlib.Core.Option.{Option, none, some, Option·map}
 use lib.Dec.{eqb}
 use lib.ListN.{length, take}
-use Rattle.order.specs.Talk.{idle, open-read, value}
+use Rattle.order.specs.Talk.{open-read, value}
 use Rattle.order.specs.Gauge.{results, end-of}
+use Rattle.order.specs.Serve.{Setup}
 use Rattle.order.specs.Observe.{Done, follow}
 use Rattle.order.specs.Promise.{ends-write, ops-of, got-of, Right}
-use Rattle.order.specs.Bytes.{heard, fed, meant, reads, client}
+use Rattle.order.specs.Bytes.{Call, heard, fed, meant, reads, client}
+use Rattle.order.specs.Keep.{RecordBoard, NoReset, parts-asked-in}
 use Rattle.trip.specs.Trip.{all-off}
 use Rattle.gauge.specs.Memory.{Store, memory-of}
 use Rattle.gauge.specs.PowerUp.{fresh-values}
 use Rattle.gauge.specs.Whole.{read-whole}
 use Rattle.sdo.specs.declared.Key.{Key}
 use Rattle.sdo.specs.Eight.{ask-of, tell-of}
-use Rattle.sdo.specs.Lines.{gauge, eight, Line, tool, service, two-lines, eight-codec, BoardCall, parts-asked-in}
-use Rattle.sdo.specs.Records.{RecordBoard, NoReset}
-use Rattle.state.specs.State.{record-at}
-use Rattle.board.specs.Gauge.{Sample, bag552}
-use Rattle.board.specs.Calls.{Called, Fed, Shown, Powered, store-of, message-call, power-up-call, sample-call, image-call}
+use Rattle.sdo.specs.Lines.{Line, tool, service, two-lines}
+use Rattle.transfer.specs.Records.{transfers}
+use Rattle.state.specs.State.{record-place, record-at}
+use Rattle.line.specs.Gauge.{Sample, bag552, plain, store-of}
+use Rattle.board.specs.Calls.{Called, Fed, Shown, Powered, message-call, power-up-call, sample-call, image-call}
+
+-- the gauge, its two lines and how they speak
+abbrev pub setup : Setup
+setup = two-lines bag552
 
 -- the bytes lent to every call: live values, saved block, state
 pub record Arrays : Type 0 where
@@ -97,7 +103,7 @@ write-seen-ended m (some bytes) = ends-write (ask-of m) (tell-of bytes)
 
 -- a call and its answer's bytes, as demand 3 has them. An image is no event
 abbrev pub Answered : Type 0
-Answered = BoardCall bag552 × List ℕ
+Answered = Call setup × List ℕ
 
 unfoldable pub event-of : Exported → Back → Option Answered
 event-of (to-message line m room) b = Option·map (λ bytes. (heard (line-of line) m, bytes)) (answer-by b)
@@ -113,12 +119,12 @@ events [] = []
 events (p ∷ ps) = with-event (event-of (p .0) (p .1)) (events ps)
 
 -- the messages and samples among the calls
-abbrev pub calls-in : List (Exported × Back) → List (BoardCall bag552)
+abbrev pub calls-in : List (Exported × Back) → List (Call setup)
 calls-in ps = map (λ (p : Answered). p .0) (events ps)
 
 -- the finished operations, in their order, each with what it got
-unfoldable pub observed : List (Exported × Back) → List (Done (gauge bag552))
-observed ps = client (gauge bag552) (two-lines idle) (λ l. eight) (λ l. eight-codec) (events ps)
+unfoldable pub observed : List (Exported × Back) → List (Done plain)
+observed ps = client setup (events ps)
 
 -- ---- the plain gauge's side
 
@@ -131,19 +137,23 @@ abbrev pub store-in : Arrays → Store
 store-in a = store-of (a .values) (a .block) (a .state)
 
 -- the board that the arrays stand for
-abbrev pub board-in : Arrays → RecordBoard bag552
-board-in a = record { store = store-in a; records = record { on-tool = record-at (a .state) 0; on-service = record-at (a .state) 96 } }
+abbrev pub line-place : Line → ℕ
+line-place tool = record-place 0
+line-place service = record-place 1
+
+abbrev pub board-in : Arrays → RecordBoard setup transfers
+board-in a = record { store = store-in a; records = λ l. record-at (a .state) (line-place l) }
 
 -- ---- DEMAND 3, of the calls that C firmware makes (R15.7)
 
 module _ (values block state : List ℕ) (cs : List Exported) where
   -- the run, and what the observer makes of it
-  abbrev pub run-of : List (Done (gauge bag552))
+  abbrev pub run-of : List (Done plain)
   run-of = observed (history (power-on values block state) cs)
 
   pub record Demand3Calls : Type 0 where
-    pub same-results : results (gauge bag552) (powered-store block) (ops-of (gauge bag552) run-of) ≡ got-of (gauge bag552) run-of
-    pub same-end : end-of (gauge bag552) (powered-store block) (ops-of (gauge bag552) run-of) ≡ store-in (final (power-on values block state) cs)
+    pub same-results : results plain (powered-store block) (ops-of plain run-of) ≡ got-of plain run-of
+    pub same-end : end-of plain (powered-store block) (ops-of plain run-of) ≡ store-in (final (power-on values block state) cs)
 
 -- ---- THE COUNT OF PARTS, of the same calls
 
@@ -153,11 +163,11 @@ arrays-after a line m room = (exported a (to-message line m room)) .0
 
 -- the value that the client has after these calls, if the read that it opened on the line before them is finished
 abbrev pub value-got : Line → List (Exported × Back) → Option (List ℕ)
-value-got l ps = follow (gauge bag552) (two-lines idle) (λ l. eight) l (map (reads (gauge bag552) (two-lines idle) (λ l. eight) (λ l. eight-codec)) (events ps)) []
+value-got l ps = follow setup l (map (reads setup) (events ps)) []
 
 -- how many messages the line's client sends among these calls
 abbrev pub parts-asked : Line → List (Exported × Back) → ℕ
-parts-asked l ps = parts-asked-in bag552 l (calls-in ps)
+parts-asked l ps = parts-asked-in setup l (calls-in ps)
 
 -- a message that is answered opens a read of an entry that holds these bytes, more than four, and these calls come after it: the line's own
 -- messages among them ask for parts with right toggles, and no device reset is done (R6.6)
@@ -167,9 +177,8 @@ pub record ReadOpened (a : Arrays) (line : ℕ) (m room bytes : List ℕ) (cs : 
   pub opens : ask-of m ≡ open-read key
   pub holds : read-whole (store-in a) (key .index) (key .sub) ≡ value bytes
   pub long : 4 < length bytes
-  pub right : Right (gauge bag552) (two-lines idle) (λ l. eight) (line-of line)
-      (map (meant (gauge bag552) (two-lines idle) (λ l. eight) (λ l. eight-codec)) (calls-in (history (arrays-after a line m room) cs))) false
-  pub calm : NoReset bag552 (board-in (arrays-after a line m room)) (calls-in (history (arrays-after a line m room) cs))
+  pub right : Right setup (line-of line) (map (meant setup) (calls-in (history (arrays-after a line m room) cs))) false
+  pub calm : NoReset setup transfers (board-in (arrays-after a line m room)) (calls-in (history (arrays-after a line m room) cs))
 
 -- the read is finished by exactly L/7 parts, rounded up
 pub record ExactParts (a : Arrays) (line : ℕ) (m room bytes : List ℕ) (cs : List Exported) : Type 0 where

@@ -9,7 +9,7 @@ use native.Mathlib.Omega.{arith}
 use lib.Dec.{ltb}
 use lib.ListN.{length, getD}
 use Rattle.order.specs.Talk.{Said, announced, unsaid, own, Sizes, sizes, closed, Outcome, declined}
-use Rattle.order.specs.Gauge.{Gauge, too-long, too-short, narrowed, narrow, counted, judged, judged-by, write-whole}
+use Rattle.order.specs.Gauge.{Gauge, too-long, too-short, narrowed, narrow, counted, by-length, judged, judged-by, write-whole}
 use Rattle.table.specs.Find.{find-row}
 use Rattle.table.specs.declared.Found.{Found}
 use Rattle.entry.specs.Limits.{verdict-code}
@@ -90,11 +90,13 @@ module _ (a : Asked) where
 
 -- a gauge on these definitions, whatever names its entries
 module _ (K S : Type 0) (index sub : K → ℕ) (sampled : Store → S → Store) where
-  abbrev pub plain : Gauge
-  plain =
+  abbrev pub plain-by : Gauge
+  plain-by =
       record {
         Store = Store;
         Key = K;
+        Name = K;
+        name-of = λ k. k;
         Sample = S;
         read-whole = λ g k. read-whole g (index k) (sub k);
         write-sizes = λ k. write-sizes (index k) (sub k);
@@ -110,23 +112,23 @@ module _ (K S : Type 0) (index sub : K → ℕ) (sampled : Store → S → Store
     step true t o rest done e = refl
     step false t o rest done e = e
 
-    over : (s : Said) (b : Bool) (x y : Sizes) → judged-by plain g k s bytes (cond b x y) ≡ cond b (judged-by plain g k s bytes x) (judged-by plain g k s bytes y)
+    over : (s : Said) (b : Bool) (x y : Sizes) → judged-by plain-by g k s bytes (cond b x y) ≡ cond b (judged-by plain-by g k s bytes x) (judged-by plain-by g k s bytes y)
     over s true x y = refl
     over s false x y = refl
 
     -- the bytes sent, against the lengths allowed
     counts : (low high : ℕ) (x : List ℕ) (rest : Option Test) (done : Outcome Memory) → commit-whole g (index k) (sub k) x ≡ with-trips g (unless-refused rest declined done)
-        → judged plain g k low high x ≡ with-trips g (unless-refused (cond (ltb high (length x)) (some sent-long) (cond (ltb (length x) low) (some sent-short) rest)) declined done)
-    unfolding judged code-of
+        → judged plain-by g k low high x ≡ with-trips g (unless-refused (cond (ltb high (length x)) (some sent-long) (cond (ltb (length x) low) (some sent-short) rest)) declined done)
+    unfolding judged by-length code-of
     counts low high x rest done e = step (ltb high (length x)) sent-long _ _ done (step (ltb (length x) low) sent-short _ rest done e)
 
     -- the four tests of the length
     lengths : (low high : ℕ) (s : Said) (rest : Option Test) (done : Outcome Memory) → let x = counted s high bytes in
         commit-whole g (index k) (sub k) x ≡ with-trips g (unless-refused rest declined done)
-        → judged-by plain g k s bytes (narrowed low high s)
+        → judged-by plain-by g k s bytes (narrowed low high s)
         ≡ with-trips g
         (unless-refused (cond (says-above high s) (some announced-long) (cond (says-below low s) (some announced-short) (cond (ltb (most high s) (length x)) (some sent-long) (cond (ltb (length x) (least low high s)) (some sent-short) rest)))) declined done)
-    unfolding narrowed judged-by counted says-above says-below most least code-of
+    unfolding narrowed by-length judged-by counted says-above says-below most least code-of
     lengths low high (announced n) rest done e =
         over (announced n) (ltb high n) (closed too-long) (cond (ltb n low) (closed too-short) (sizes n n))
         ∙ step (ltb high n) announced-long _ _ done
@@ -150,12 +152,12 @@ module _ (K S : Type 0) (index sub : K → ℕ) (sampled : Store → S → Store
       committed e = ap (with-trips g) (parted (asked found unsaid (sent all-asked) (g .memory .values)) key-order last-order declined done ∙ rw e)
 
       by-key : (o : Option Test) → refused-by (asked-key found) key-order ≡ o
-          → judged-by plain g k s bytes (narrow (unless-refused o closed (sizes (smallest (number-asked all-asked)) (largest (number-asked all-asked)))) s)
+          → judged-by plain-by g k s bytes (narrow (unless-refused o closed (sizes (smallest (number-asked all-asked)) (largest (number-asked all-asked)))) s)
           ≡ with-trips g (unless-refused o declined (unless-refused (refused-by all-asked (length-order ++ last-order)) declined done))
       unfolding narrow judged-by with-trips unless-refused refused-by length-order last-order fails
       by-key none e = lengths (smallest (number-asked all-asked)) (largest (number-asked all-asked)) s (refused-by all-asked last-order) done (committed e)
       by-key (some t) e = refl
 
-      pub write-in-order : write-whole plain g k s bytes ≡ write-checked g all-asked
+      pub write-in-order : write-whole plain-by g k s bytes ≡ write-checked g all-asked
       unfolding write-whole write-sizes sizes-checked write-checked write-by write-order refused-by key-order fails
       write-in-order = by-key (refused-by (asked-key found) key-order) refl ∙ ap (with-trips g) (sym (parted all-asked key-order (length-order ++ last-order) declined done))

@@ -1,13 +1,14 @@
 -- RULE: A LINE'S TRANSFER KEPT IN A RECORD, and demand 3 of the board with its records: `speak` is one message of one line, on the store
 -- and that line's record.
-use Prim.Native.Nat.{ℕ}
+use Prim.Native.Nat.{ℕ, _+_, _*_, _≤_, _<_}
 use mathlib.Core.Path.{_≡_}
 use mathlib.Core.Bool.{Bool, true, false, cond}
 use mathlib.Core.List.{List, [], _∷_, map}
-use mathlib.Core.Option.{Option}
+use mathlib.Core.Option.{Option, none, some}
+use lib.ListN.{length, take}
 use Rattle.order.specs.Talk.{Request, Pending, idle}
 use Rattle.order.specs.Gauge.{Gauge, results, end-of}
-use Rattle.order.specs.Serve.{Form, Speech, put-at, Setup, After, kept, wiped, left, Served, serve}
+use Rattle.order.specs.Serve.{Speech, put-at, Setup, After, kept, wiped, left, Served, serve}
 use Rattle.order.specs.Observe.{Done, follow}
 use Rattle.order.specs.Promise.{ops-of, got-of, Right, count}
 use Rattle.order.specs.Bytes.{Call, heard, fed, meant, reads, client}
@@ -39,6 +40,10 @@ module _ (P : Gauge) (R : Keeping (P .Key)) where
   -- ONE MESSAGE on a line with record t
   unfoldable pub speak : Speech (P .Key) (P .Name) → P .Store → R .Record → List ℕ → Spoken
   speak H g t m = spoken H t m (serve P (H .form) g (R .view t) (H .ask m))
+
+-- how many messages line l has among these calls
+abbrev pub parts-asked-in : (S : Setup) → S .wires .Line → List (Call S) → ℕ
+parts-asked-in S l cs = count S l (map (meant S) cs)
 
 module _ (S : Setup) (R : Keeping (S .gauge .Key)) where
   pub record RecordBoard : Type 0 where
@@ -89,13 +94,14 @@ module _ (S : Setup) (R : Keeping (S .gauge .Key)) where
     pub right : Right S l (map (meant S) cs) false
     pub calm : NoReset b cs
 
-  -- how many messages line l has among these calls
-  abbrev pub parts-asked-in : S .wires .Line → List (Call S) → ℕ
-  parts-asked-in l cs = count S l (map (meant S) cs)
-
   -- the value that the client has after these calls, if the read that it opened on line l before them, of which it has `got`, is finished
   abbrev pub record-got : S .wires .Line → RecordBoard → List (Call S) → List ℕ → Option (List ℕ)
   record-got l b cs got = follow S l (map (reads S) (record-talk b cs)) got
+
+  -- THE COUNT (R6.6), of the board with its records: a read of which `place` bytes are got ends once its parts reach the end, and not before
+  pub record RecordEnds (l : S .wires .Line) (bytes : List ℕ) (place : ℕ) (b : RecordBoard) (cs : List (Call S)) : Type 0 where
+    pub at-last : length bytes ≤ place + parts-asked-in S l cs * S .speech l .form .size → record-got l b cs (take place bytes) ≡ some bytes
+    pub not-before : place + parts-asked-in S l cs * S .speech l .form .size < length bytes → record-got l b cs (take place bytes) ≡ none
 
   -- ---- what is asked of a keeping
 

@@ -46,7 +46,7 @@ pub record Wires (X : Type 0) (x₀ : X) : Type 1 where
   pub at-other : (ls : Lines) (l m : Line) (x : X) → m ≢ l → at (with ls l x) m ≡ at ls m
   pub at-clear : (l : Line) → at clear l ≡ x₀
 
--- lines that hold what a function says
+-- lines that are functions: what stands at a line is looked up
 module _ {L X : Type 0} (same : (l m : L) → Dec (l ≡ m)) where
   pub put-same : (f : L → X) (l : L) (x : X) → put-at same f l x l ≡ x
   unfolding put-at
@@ -54,15 +54,15 @@ module _ {L X : Type 0} (same : (l m : L) → Dec (l ≡ m)) where
     where
       go : (d : Dec (l ≡ l)) → if-same d x (f l) ≡ x
       go (yes e) = refl
-      go (no n) = absurd (n refl)
+      go (no e) = absurd (e refl)
 
   pub put-other : (f : L → X) (l m : L) (x : X) → m ≢ l → put-at same f l x m ≡ f m
   unfolding put-at
-  put-other f l m x d = go (same m l)
+  put-other f l m x e = go (same m l)
     where
-      go : (e : Dec (m ≡ l)) → if-same e x (f m) ≡ f m
-      go (yes e) = absurd (d e)
-      go (no n) = refl
+      go : (d : Dec (m ≡ l)) → if-same d x (f m) ≡ f m
+      go (yes e′) = absurd (e e′)
+      go (no e′) = refl
 
   abbrev pub by-line : (x₀ : X) → Wires X x₀
   by-line x₀ =
