@@ -19,7 +19,7 @@ use Rattle.order.specs.Gauge.{results, end-of}
 use Rattle.order.specs.Serve.{put-at}
 use Rattle.order.specs.Observe.{Done}
 use Rattle.order.specs.Promise.{ops-of, got-of}
-use Rattle.order.specs.Bytes.{Call, heard, fed, client}
+use Rattle.order.specs.Bytes.{Call, heard, sensed, client}
 use Rattle.order.specs.Keep.{Spoken, speak, RecordBoard, records-after, record-call, record-talk, record-end, record-start, Demand3Records, Again}
 use Rattle.order.proofs.Kept.{unfinished}
 use Rattle.gauge.specs.Memory.{Store, memory-of}
@@ -42,7 +42,7 @@ use Rattle.demand3.proofs.Trips.{trips-kept}
 use Rattle.demand3.proofs.StateBytes.{record-long, record-back, record-beside, trips-long, trips-back, trips-beside}
 
 -- what every run keeps: the arrays' lengths
-pub record Lent (a : Arrays) : Type 0 where
+pub record Fitting (a : Arrays) : Type 0 where
   pub memory-sized : GoodStore (store-in a)
   pub state-is : length (a .state) ≡ 256
 
@@ -149,11 +149,11 @@ whole-at : (s : List ℕ) (at : ℕ) → length s ≡ 256 → at + 70 ≤ 256 �
 unfolding record-at
 whole-at s at n h = part-length s at 64 (omega arith)
 
-pub whole-board : (a : Arrays) → Lent a → (l : Line) → Whole (board-in a .records l)
+pub whole-board : (a : Arrays) → Fitting a → (l : Line) → Whole (board-in a .records l)
 whole-board a ok tool = whole-at (a .state) 0 (ok .state-is) (omega arith)
 whole-board a ok service = whole-at (a .state) 96 (ok .state-is) (omega arith)
 
-module _ (a : Arrays) (ok : Lent a) (line : ℕ) (on-line : line ≤ 1) (m : List ℕ) where
+module _ (a : Arrays) (ok : Fitting a) (line : ℕ) (on-line : line ≤ 1) (m : List ℕ) where
   abbrev own : Transfer
   own = record-at (a .state) (record-place line)
 
@@ -195,7 +195,7 @@ module _ (a : Arrays) (ok : Lent a) (line : ℕ) (on-line : line ≤ 1) (m : Lis
       ∙ ap (λ (b : RecordBoard setup transfers). (b, said .bytes))
       (boards-same store-after (sym (settled-records a line (said .next) (said .reset) on-line (ok .state-is) next-long next-small)))
 
-  after-lent : Lent after
+  after-lent : Fitting after
   after-lent =
       record {
         memory-sized = subst GoodStore store-after (again .good);
@@ -204,12 +204,12 @@ module _ (a : Arrays) (ok : Lent a) (line : ℕ) (on-line : line ≤ 1) (m : Lis
 
 -- ---- every call is a call of the board, or no event
 
-abbrev pub Seen : RecordBoard setup transfers → RecordBoard setup transfers → Option Answered → Type 0
-Seen b b′ none = b′ ≡ b
-Seen b b′ (some p) = record-call setup transfers b (p .0) ≡ (b′, p .1)
+abbrev pub IsCall : RecordBoard setup transfers → RecordBoard setup transfers → Option Answered → Type 0
+IsCall b b′ none = b′ ≡ b
+IsCall b b′ (some p) = record-call setup transfers b (p .0) ≡ (b′, p .1)
 
 abbrev pub Fine : Arrays → Exported → Arrays × Back → Type 0
-Fine a c x = Lent (x .0) × Seen (board-in a) (board-in (x .0)) (event-of c (x .1))
+Fine a c x = Fitting (x .0) × IsCall (board-in a) (board-in (x .0)) (event-of c (x .1))
 
 -- the observer reads the answer's bytes off the room
 answer-read : (bytes room : List ℕ) → (bytes ≡ []) ⊎ (length bytes ≡ 8) → answer-by (back (number-by bytes) (splice room 0 bytes)) ≡ some bytes
@@ -218,7 +218,7 @@ answer-read [] room e = refl
 answer-read (x ∷ xs) room (inl e) = let z : _≡_ {A = ℕ} 0 1 = cc in absurd (omega arith)
 answer-read (x ∷ xs) room (inr e) = ap some (part-same room 0 (x ∷ xs) (le-leb 0 (length room) (omega arith)) 8 e)
 
-module _ (a : Arrays) (ok : Lent a) (line : ℕ) (m room : List ℕ) where
+module _ (a : Arrays) (ok : Fitting a) (line : ℕ) (m room : List ℕ) where
   abbrev c : Exported
   c = to-message line m room
 
@@ -229,7 +229,7 @@ module _ (a : Arrays) (ok : Lent a) (line : ℕ) (m room : List ℕ) where
   unfolding served event-of
   fine-served h = (
     after-lent a ok line h m,
-    subst (λ (o : Option (List ℕ)). Seen (board-in a) (board-in (after a ok line h m)) (Option·map (λ bytes. (heard (line-of line) m, bytes)) o))
+    subst (λ (o : Option (List ℕ)). IsCall (board-in a) (board-in (after a ok line h m)) (Option·map (λ bytes. (heard (line-of line) m, bytes)) o))
         (sym (answer-read (said a ok line h m .bytes) room (said-eight a ok line h m))) (message-follows a ok line h m),
   )
 
@@ -272,7 +272,7 @@ module _ (a : Arrays) (ok : Lent a) (line : ℕ) (m room : List ℕ) where
   unfolding exported
   unfinished-leaves = by-cases (λ (x : Called). Leaves (by-message x)) (λ e. refl) (λ e. refl) (λ e. refl) leaves-served
 
-module _ (a : Arrays) (ok : Lent a) (s : Sample) where
+module _ (a : Arrays) (ok : Fitting a) (s : Sample) where
   abbrev fed-store : Store
   fed-store = sampled (store-of (a .values) [] (a .state)) s
 
@@ -288,7 +288,7 @@ module _ (a : Arrays) (ok : Lent a) (s : Sample) where
   sampled-arrays =
       arrays (values-after (a .values) (trips-at (a .state)) (s .pressure) (s .valid) (s .faults) (s .seconds)) (a .block) (splice (a .state) trips-place (trips-bytes tripped))
 
-  sampled-lent : Lent sampled-arrays
+  sampled-lent : Fitting sampled-arrays
   sampled-lent =
       let n : length (a .state) ≡ 256 = ok .state-is in
       record {
@@ -303,7 +303,7 @@ module _ (a : Arrays) (ok : Lent a) (s : Sample) where
   beside-trips at h = let n : length (a .state) ≡ 256 = ok .state-is in sym (record-beside (a .state) trips-place (trips-bytes tripped) at (omega arith) (inr h))
 
   -- LAW: a sample is the board's call
-  sample-follows : record-call setup transfers (board-in a) (fed s) ≡ (board-in sampled-arrays, [])
+  sample-follows : record-call setup transfers (board-in a) (sensed s) ≡ (board-in sampled-arrays, [])
   unfolding record-call sampled
   sample-follows =
       ap (λ (b : RecordBoard setup transfers). (b, []))
@@ -314,7 +314,7 @@ module _ (a : Arrays) (ok : Lent a) (s : Sample) where
   unfolding fed-by sampled event-of
   fine-fed = (sampled-lent, sample-follows)
 
-pub fine : (a : Arrays) → Lent a → (c : Exported) → Fine a c (exported a c)
+pub fine : (a : Arrays) → Fitting a → (c : Exported) → Fine a c (exported a c)
 unfolding exported event-of
 fine a ok (to-message line m room) = fine-message a ok line m room
 fine a ok (to-sample s) = subst (λ (x : Fed). Fine a (to-sample s) (by-sample (a .block) x)) (sym (sample-is a ok s)) (fine-fed a ok s)
@@ -325,7 +325,7 @@ fine a ok (to-image room) = (ok, refl)
 abbrev firsts : List Answered → List (Call setup)
 firsts es = map (λ (p : Answered). p .0) es
 
-talk-with : (o : Option Answered) (b b′ : RecordBoard setup transfers) (es : List Answered) → Seen b b′ o → es ≡ record-talk setup transfers b′ (firsts es)
+talk-with : (o : Option Answered) (b b′ : RecordBoard setup transfers) (es : List Answered) → IsCall b b′ o → es ≡ record-talk setup transfers b′ (firsts es)
     → with-event o es ≡ record-talk setup transfers b (firsts (with-event o es))
 unfolding with-event record-talk
 talk-with none b b′ es h e = e ∙ ap (λ (x : RecordBoard setup transfers). record-talk setup transfers x (firsts es)) h
@@ -333,24 +333,24 @@ talk-with (some p) b b′ es h e =
     ap (λ (l : List Answered). p ∷ l) e
     ∙ ap (λ (x : RecordBoard setup transfers × List ℕ). (p .0, x .1) ∷ record-talk setup transfers (x .0) (firsts es)) (sym h)
 
-end-with : (o : Option Answered) (b b′ x : RecordBoard setup transfers) (es : List Answered) → Seen b b′ o → x ≡ record-end setup transfers b′ (firsts es)
+end-with : (o : Option Answered) (b b′ x : RecordBoard setup transfers) (es : List Answered) → IsCall b b′ o → x ≡ record-end setup transfers b′ (firsts es)
     → x ≡ record-end setup transfers b (firsts (with-event o es))
 unfolding with-event record-end
 end-with none b b′ x es h e = e ∙ ap (λ (y : RecordBoard setup transfers). record-end setup transfers y (firsts es)) h
 end-with (some p) b b′ x es h e = e ∙ ap (λ (y : RecordBoard setup transfers × List ℕ). record-end setup transfers (y .0) (firsts es)) (sym h)
 
 -- a run is a run of the board with its records: the same answers, the same end
-pub record Told (a : Arrays) (cs : List Exported) : Type 0 where
+pub record SameRun (a : Arrays) (cs : List Exported) : Type 0 where
   pub same-answers : events (history a cs) ≡ record-talk setup transfers (board-in a) (calls-in (history a cs))
   pub same-board : board-in (final a cs) ≡ record-end setup transfers (board-in a) (calls-in (history a cs))
-  pub lent-still : Lent (final a cs)
+  pub lent-still : Fitting (final a cs)
 
-pub told : (cs : List Exported) (a : Arrays) → Lent a → Told a cs
+pub same-run : (cs : List Exported) (a : Arrays) → Fitting a → SameRun a cs
 unfolding history final events record-talk record-end
-told [] a ok = record { same-answers = refl; same-board = refl; lent-still = ok }
-told (c ∷ cs) a ok =
+same-run [] a ok = record { same-answers = refl; same-board = refl; lent-still = ok }
+same-run (c ∷ cs) a ok =
     let f : Fine a c (exported a c) = fine a ok c in
-    let r : Told ((exported a c) .0) cs = told cs ((exported a c) .0) (f .0) in
+    let r : SameRun ((exported a c) .0) cs = same-run cs ((exported a c) .0) (f .0) in
     record {
       same-answers = talk-with (event-of c ((exported a c) .1)) (board-in a) (board-in ((exported a c) .0)) (events (history ((exported a c) .0) cs)) (f .1) (r .same-answers);
       same-board = end-with (event-of c ((exported a c) .1)) (board-in a) (board-in ((exported a c) .0)) (board-in (final ((exported a c) .0) cs)) (events (history ((exported a c) .0) cs)) (f .1) (r .same-board);
@@ -384,7 +384,7 @@ module _ (v b s : List ℕ) where
     unfolding power-on power-up-call
     powered-is = rw (accepted zero-given)
 
-    pub powered-lent : Lent (power-on v b s)
+    pub powered-lent : Fitting (power-on v b s)
     powered-lent = rw powered-is (record { memory-sized = record { values-are = fresh-long b; block-is = long .0 }; state-is = fresh-long-state s (long .1) })
 
     powered-board : board-in (power-on v b s) ≡ record-start setup transfers (powered-store b)
@@ -407,8 +407,8 @@ module _ (v b s : List ℕ) where
         seen : List Answered → List (Done plain)
         seen ps = client setup ps
 
-        t : Told (power-on v b s) cs
-        t = told cs (power-on v b s) powered-lent
+        t : SameRun (power-on v b s) cs
+        t = same-run cs (power-on v b s) powered-lent
 
         ds : List (Call setup)
         ds = calls-in (history (power-on v b s) cs)

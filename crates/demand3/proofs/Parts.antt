@@ -19,9 +19,9 @@ use Rattle.line.specs.Gauge.{bag552}
 use Rattle.board.specs.Calls.{power-up-call}
 use Rattle.demand3.specs.Firmware.{setup, Arrays, Exported, to-message, Back, exported, history, final, power-on, line-of, answer-by, Answered, event-of, calls-in, board-in, arrays-after, value-got, ReadOpened, ExactParts}
 use Rattle.demand3.proofs.Bag552.{sound, kept-records}
-use Rattle.demand3.proofs.Calls.{Lent, whole-board, Seen, fine, told, powered-lent}
+use Rattle.demand3.proofs.Calls.{Fitting, whole-board, IsCall, fine, same-run, powered-lent}
 
-module _ (a : Arrays) (ok : Lent a) (line : ℕ) (m room bytes : List ℕ) (cs : List Exported) (r : ReadOpened a line m room bytes cs) where
+module _ (a : Arrays) (ok : Fitting a) (line : ℕ) (m room bytes : List ℕ) (cs : List Exported) (r : ReadOpened a line m room bytes cs) where
   abbrev a′ : Arrays
   a′ = arrays-after a line m room
 
@@ -36,7 +36,7 @@ module _ (a : Arrays) (ok : Lent a) (line : ℕ) (m room bytes : List ℕ) (cs :
   unfolding event-of answer-by
   opened-board =
       subst
-      (λ (n : ℕ). Seen (board-in a) (board-in a′) (Option·map (λ bytes. (heard (line-of line) m, bytes)) (cond (eqb n 0) (some (take 8 (back′ .room))) (cond (eqb n 5) (some []) none))))
+      (λ (n : ℕ). IsCall (board-in a) (board-in a′) (Option·map (λ bytes. (heard (line-of line) m, bytes)) (cond (eqb n 0) (some (take 8 (back′ .room))) (cond (eqb n 5) (some []) none))))
       (r .answered) (fine a ok (to-message line m room) .1)
 
   abbrev from : RecordBoard setup transfers
@@ -73,7 +73,7 @@ module _ (a : Arrays) (ok : Lent a) (line : ℕ) (m room bytes : List ℕ) (cs :
   same-value : value-got (line-of line) (history a′ cs) ≡ record-got setup transfers (line-of line) from ds []
   same-value =
       ap (λ (ps : List Answered). follow setup (line-of line) (map (reads setup) ps) [])
-      (told cs a′ (fine a ok (to-message line m room) .0) .same-answers ∙ ap (λ (b : RecordBoard setup transfers). record-talk setup transfers b ds) from-is)
+      (same-run cs a′ (fine a ok (to-message line m room) .0) .same-answers ∙ ap (λ (b : RecordBoard setup transfers). record-talk setup transfers b ds) from-is)
 
   pub exact-parts-from : ExactParts a line m room bytes cs
   unfolding eight
@@ -87,4 +87,4 @@ module _ (a : Arrays) (ok : Lent a) (line : ℕ) (m room bytes : List ℕ) (cs :
 pub exact-parts : (v b s : List ℕ) → (power-up-call v b s) .number ≡ 0 → (before : List Exported) (line : ℕ) (m room bytes : List ℕ) (cs : List Exported)
     → ReadOpened (final (power-on v b s) before) line m room bytes cs → ExactParts (final (power-on v b s) before) line m room bytes cs
 exact-parts v b s e before line m room bytes cs r =
-    exact-parts-from (final (power-on v b s) before) (told before (power-on v b s) (powered-lent v b s e) .lent-still) line m room bytes cs r
+    exact-parts-from (final (power-on v b s) before) (same-run before (power-on v b s) (powered-lent v b s e) .lent-still) line m room bytes cs r

@@ -12,7 +12,7 @@ use Rattle.order.specs.Gauge.{results, end-of}
 use Rattle.order.specs.Serve.{Setup}
 use Rattle.order.specs.Observe.{Done, follow}
 use Rattle.order.specs.Promise.{ends-write, ops-of, got-of, Right}
-use Rattle.order.specs.Bytes.{Call, heard, fed, meant, reads, client}
+use Rattle.order.specs.Bytes.{Call, heard, sensed, meant, reads, client}
 use Rattle.order.specs.Keep.{RecordBoard, NoReset, parts-asked-in}
 use Rattle.trip.specs.Trip.{all-off}
 use Rattle.gauge.specs.Memory.{Store, memory-of}
@@ -107,7 +107,7 @@ Answered = Call setup × List ℕ
 
 unfoldable pub event-of : Exported → Back → Option Answered
 event-of (to-message line m room) b = Option·map (λ bytes. (heard (line-of line) m, bytes)) (answer-by b)
-event-of (to-sample s) b = cond (eqb (b .number) 0) (some (fed s, [])) none
+event-of (to-sample s) b = cond (eqb (b .number) 0) (some (sensed s, [])) none
 event-of (to-image room) b = none
 
 unfoldable pub with-event : Option Answered → List Answered → List Answered
@@ -161,7 +161,7 @@ module _ (values block state : List ℕ) (cs : List Exported) where
 abbrev pub arrays-after : Arrays → ℕ → List ℕ → List ℕ → Arrays
 arrays-after a line m room = (exported a (to-message line m room)) .0
 
--- the value that the client has after these calls, if the read that it opened on the line before them is finished
+-- the value that the client has after these calls, if the read that it all-opened on the line before them is finished
 abbrev pub value-got : Line → List (Exported × Back) → Option (List ℕ)
 value-got l ps = follow setup l (map (reads setup) (events ps)) []
 

@@ -11,7 +11,7 @@ use Rattle.order.specs.Gauge.{Gauge}
 use Rattle.order.specs.Serve.{Form, Speech, if-same, put-at, Setup, After, kept, wiped, left, Reply, read-opening, Served, serve, Board, served-on, leave, step, trace}
 use Rattle.order.specs.Observe.{Pairs, follow}
 use Rattle.order.specs.Promise.{ends-write, is-abort, Spares, start, Right, Calm, Ends}
-use Rattle.order.specs.Bytes.{Call, heard, fed, meant, call, talk, reads, after-all, SerialBytes, Clear}
+use Rattle.order.specs.Bytes.{Call, heard, sensed, meant, call, talk, reads, after-all, SerialBytes, Clear}
 use Rattle.order.specs.Keep.{Keeping, is-wiped, spoken, speak, RecordBoard, record-call, record-talk, record-end, record-start, Demand3Records, NoReset, RecordParts, record-got, RecordEnds, Again, Keeps}
 use Rattle.order.proofs.Serial.{by-cond, own-line}
 use Rattle.order.proofs.Count.{untouched, aborts-drop, ends}
@@ -85,7 +85,7 @@ module _ (S : Setup) (R : Keeping (S .gauge .Key)) {Good : S .gauge .Store → T
 
   pub follows : (b : RecordBoard S R) (d : Board S) (c : Call S) → Shows b d → Follows b d c
   unfolding record-call call step speak
-  follows b d (fed s) w =
+  follows b d (sensed s) w =
       record {
         same-bytes = refl;
         on = record { same-store = ap (λ (g : P .Store). P .sampled g s) (w .same-store); same-lines = w .same-lines; good = K .sample-good (b .store) s (w .good); whole = w .whole };
@@ -148,7 +148,7 @@ module _ (S : Setup) (R : Keeping (S .gauge .Key)) {Good : S .gauge .Store → T
     subst (λ (y : Served P). Spares (y .after)) (same-served b d w l m) (spares ((on-record P R (S .speech l) (b .store) (b .records l) m) .after) (n .0)),
     no-reset-calm cs ((record-call S R b (heard l m)) .0) ((call S d (heard l m)) .0) ((follows b d (heard l m) w) .on) (n .1),
   )
-  no-reset-calm (fed s ∷ cs) b d w n = no-reset-calm cs ((record-call S R b (fed s)) .0) ((call S d (fed s)) .0) ((follows b d (fed s) w) .on) n
+  no-reset-calm (sensed s ∷ cs) b d w n = no-reset-calm cs ((record-call S R b (sensed s)) .0) ((call S d (sensed s)) .0) ((follows b d (sensed s) w) .on) n
 
   module _ (clear : Clear S) where
     -- THEOREM: demand 3, of the board with its records, for every list of calls from any good store with no transfer under way

@@ -11,7 +11,7 @@ use Rattle.order.specs.Gauge.{Gauge, results, end-of}
 use Rattle.order.specs.Serve.{Speech, put-at, Setup, After, kept, wiped, left, Served, serve}
 use Rattle.order.specs.Observe.{Done, follow}
 use Rattle.order.specs.Promise.{ops-of, got-of, Right, count}
-use Rattle.order.specs.Bytes.{Call, heard, fed, meant, reads, client}
+use Rattle.order.specs.Bytes.{Call, heard, sensed, meant, reads, client}
 
 -- how a transfer is kept: the record of none, the transfer that a record stands for, and the record after a request, which is laid
 -- over the one before
@@ -60,7 +60,7 @@ module _ (S : Setup) (R : Keeping (S .gauge .Key)) where
   -- ONE CALL
   unfoldable pub record-call : RecordBoard → Call S → RecordBoard × List ℕ
   record-call b (heard l m) = (record { store = (spoken-on b l m) .store; records = records-after (b .records) l (spoken-on b l m) }, (spoken-on b l m) .bytes)
-  record-call b (fed s) = (record { store = S .gauge .sampled (b .store) s; records = b .records }, [])
+  record-call b (sensed s) = (record { store = S .gauge .sampled (b .store) s; records = b .records }, [])
 
   unfoldable pub record-talk : RecordBoard → List (Call S) → List (Call S × List ℕ)
   record-talk b [] = []
@@ -87,7 +87,7 @@ module _ (S : Setup) (R : Keeping (S .gauge .Key)) where
   abbrev pub NoReset : RecordBoard → List (Call S) → Type 0
   NoReset b [] = Unit {0}
   NoReset b (heard l m ∷ cs) = ((spoken-on b l m) .reset ≡ false) × NoReset ((record-call b (heard l m)) .0) cs
-  NoReset b (fed s ∷ cs) = NoReset ((record-call b (fed s)) .0) cs
+  NoReset b (sensed s ∷ cs) = NoReset ((record-call b (sensed s)) .0) cs
 
   -- l's own messages among these calls ask for parts with right toggles, which start at 0 (R6.3), and no device reset is done
   pub record RecordParts (l : S .wires .Line) (b : RecordBoard) (cs : List (Call S)) : Type 0 where
