@@ -37,7 +37,7 @@ did k bytes = (write k (announced (length bytes)) bytes, yes!)
 abbrev got : Key → List ℕ → Done plain
 got k bytes = (read k, gave bytes)
 
--- the read that was all-opened first stands first, with the old label; then the write; then the read of the new one
+-- the read that was opened first stands first, with the old label; then the write; then the read of the new one
 pub J-seen : seen-in case-J ≡ got label (replicate 32 0) ∷ did label (replicate 32 0x41) ∷ got label (replicate 32 0x41) ∷ []
 unfolding label-changed case-J all-opened observer-opened
 J-seen = refl
@@ -76,7 +76,7 @@ pub nothing-seen : observed (history powered unseen) ≡ []
 unfolding unseen all-opened observer-opened
 nothing-seen = refl
 
--- THE COUNT OF PARTS AT WORK: a label of 32 bytes is all-opened on line 0; line 1 sets the lock between the parts; five parts end it
+-- THE COUNT OF PARTS AT WORK: a label of 32 bytes is opened on line 0; line 1 sets the lock between the parts; five parts end it
 unfoldable pub label-parts : List Case
 label-parts =
     on 0 (0x60 ∷ []) (0x00 ∷ []) ∷

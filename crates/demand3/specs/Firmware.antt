@@ -161,7 +161,7 @@ module _ (values block state : List ℕ) (cs : List Exported) where
 abbrev pub arrays-after : Arrays → ℕ → List ℕ → List ℕ → Arrays
 arrays-after a line m room = (exported a (to-message line m room)) .0
 
--- the value that the client has after these calls, if the read that it all-opened on the line before them is finished
+-- the value that the client has after these calls, if the read that it opened on the line before them is finished
 abbrev pub value-got : Line → List (Exported × Back) → Option (List ℕ)
 value-got l ps = follow setup l (map (reads setup) (events ps)) []
 
