@@ -1,7 +1,7 @@
 // Reads on a line: openings and parts.
 use crate::reply;
 use command::word;
-use gate::Gate;
+use find::Gate;
 use sdo::Direction;
 use sdo::Key;
 use sdo::Transfer;

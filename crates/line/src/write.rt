@@ -1,7 +1,6 @@
 // Writes on a line: openings, with the value or without, and parts.
 use crate::reply;
-use gate::Gate;
-use gate::code;
+use find::Gate;
 use gauge::commit::Ending;
 use sdo::Direction;
 use sdo::Key;
@@ -9,6 +8,7 @@ use sdo::Opening;
 use sdo::Transfer;
 use sdo::answer;
 use sdo::record;
+use table::code;
 ghost use mathlib.Core.Path.{_≡_};
 ghost use Prim.Native.Nat.{_+_, _≤_, _<_};
 ghost use lib.ListN.{length, take, drop};

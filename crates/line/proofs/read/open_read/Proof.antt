@@ -2,7 +2,7 @@
 use mathlib.Core.Path.{ap, _∙_}
 use borrow.Author.Needs.{needs}
 use Rattle.table.specs.Row.{WO}
-use Rattle.gate.specs.Codes.{write-only}
+use Rattle.table.specs.Codes.{write-only}
 use Rattle.line.specs.Answering.{replied, opens-read}
 use Rattle.line.proofs.Doors.{open-row, open-reply, shut-reply}
 use Rattle.line.proofs.read.open_read.Statement.{statement}
