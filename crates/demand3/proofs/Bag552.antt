@@ -10,10 +10,10 @@ use lib.ListN.{length, length-take}
 use borrow.Author.Tests.{eqb-false, eq-eqb, ne-eqb, le-leb}
 use Rattle.order.specs.Talk.{Read, value, denied, Sizes, sizes, closed, Outcome, stored, restarted, declined}
 use Rattle.order.specs.Gauge.{counted}
-use Rattle.table.specs.Row.{Row, RO, WO, CARD, COMMAND}
+use Rattle.table.specs.Row.{Row, RO, WO, CARD, COMMAND, smallest, largest}
 use Rattle.table.specs.Rows.{row-count, at-row}
 use Rattle.table.specs.Rule.{held}
-use Rattle.table.specs.Find.{find-row}
+use Rattle.table.specs.Find.{find-row, row-number}
 use Rattle.table.specs.declared.Found.{Found}
 use Rattle.table.specs.declared.Found.the-variants.{At, NoIndex, NoSub}
 use Rattle.table.proofs.Table.{row-rule, find-at}
@@ -21,14 +21,14 @@ use Rattle.entry.specs.Limits.{verdict-code}
 use Rattle.entry.specs.Entry.{entry-of}
 use Rattle.entry.proofs.RowLaws.{held-most}
 use Rattle.card.proofs.Made.{length-card}
-use Rattle.gate.specs.Codes.{write-only, read-only}
+use Rattle.table.specs.Codes.{write-only, read-only}
 use Rattle.gate.specs.Gates.{Way, to-row, no-way, gate, read-gate, write-gate}
 use Rattle.command.specs.Words.{command-at, read-word, word-of, same-bytes}
 use Rattle.command.specs.declared.word.Command.{Command}
 use Rattle.command.specs.declared.word.Command.the-variants.{DeviceReset, ExceptionReset, StoreParameters, LoadParameters}
 use Rattle.gauge.specs.Memory.{Memory, Store}
 use Rattle.gauge.specs.Commands.{done, obeyed}
-use Rattle.gauge.specs.Checks.{asked-last, row-number, smallest, largest, Test, no-such-index, no-such-subindex, only-written, only-read, announced-long, announced-short, sent-long, sent-short, under-lock, no-number, too-high, too-low, code-of, last-order, refused-by, unless-refused}
+use Rattle.gauge.specs.Checks.{asked-last, Test, no-such-index, no-such-subindex, only-written, only-read, announced-long, announced-short, sent-long, sent-short, under-lock, no-number, too-high, too-low, code-of, last-order, refused-by, unless-refused}
 use Rattle.gauge.specs.Whole.{by-type, value-of, effect, write-by, commit-row, with-trips, commit-whole}
 use Rattle.gauge.proofs.ByGate.{read-through, sizes-of, commit-through, read-by-gate, sizes-by-gate, commit-by-gate}
 use Rattle.gauge.proofs.ValueLaws.{value-length}
