@@ -10,7 +10,7 @@ use lib.ListN.{length, take, drop}
 use borrow.Author.Tests.{ltb-false, leb-true, ne-eqb}
 use Rattle.order.specs.Talk.{Said, announced, unsaid, own, open-read, open-write, expedited, Sizes, sizes, closed, refused, Outcome, stored, restarted, declined}
 use Rattle.order.specs.Gauge.{too-long, too-short, narrowed, counted, say}
-use Rattle.table.specs.Row.{RO, WO}
+use Rattle.table.specs.Row.{RO, WO, smallest, largest}
 use Rattle.table.specs.Rows.{at-row, row-count}
 use Rattle.table.specs.Find.{find-row}
 use Rattle.table.specs.Rule.{pick}
@@ -21,7 +21,6 @@ use Rattle.table.specs.Codes.{write-only, read-only}
 use Rattle.gate.specs.Gates.{Way, to-row, no-way, gate, read-gate, write-gate}
 use Rattle.gate.proofs.GateLaws.{Opened, opened}
 use Rattle.gauge.specs.Memory.{Memory, Store, memory-of}
-use Rattle.gauge.specs.Checks.{smallest, largest}
 use Rattle.gauge.specs.Whole.{value-of, commit-row, with-trips, write-sizes}
 use Rattle.gauge.proofs.ByGate.{read-through, sizes-of, commit-through, read-by-gate, sizes-by-gate, commit-by-gate}
 use Rattle.gauge.proofs.ValueLaws.{value-length}

@@ -17,6 +17,7 @@ use Rattle.table.specs.Row.{Row, CARD, COMMAND}
 use Rattle.table.specs.Rows.{rows, row-count, at-row}
 use Rattle.table.specs.Places.{input-value, trip-input-1, trip-input-2, reading-valid, status-1, status-2, trip-outputs, sensor-error, active-word, latched-word, summary-byte, power-on-time}
 use Rattle.table.proofs.Table.{rows-length, row-rule}
+use Rattle.table.specs.Find.{row-number}
 use Rattle.entry.proofs.EntryLaws.{length-stored, length-defaults}
 use Rattle.trip.specs.Trip.{usable-pressure}
 use Rattle.trip.specs.declared.Trips.{Trips}
@@ -30,7 +31,7 @@ use Rattle.command.specs.declared.word.Command.the-variants.{DeviceReset, Excep
 use Rattle.gauge.specs.Memory.{Memory}
 use Rattle.gauge.specs.PowerUp.{fresh-values, powered-up}
 use Rattle.gauge.specs.Commands.{done, obeyed}
-use Rattle.gauge.specs.Checks.{asked-last, row-number, Test, last-order, refused-by, unless-refused}
+use Rattle.gauge.specs.Checks.{asked-last, Test, last-order, refused-by, unless-refused}
 use Rattle.gauge.specs.Whole.{by-type, effect, write-by, commit-row}
 use Rattle.gauge.proofs.CommitLaws.{other-held}
 use Rattle.gauge.proofs.GaugeLaws.{status-length, cleared-length}

@@ -8,8 +8,9 @@ use Rattle.wire.specs.Flags.{is-set}
 use Rattle.bits.specs.Bits.{msb, bits, num-from, num, field, packed}
 use Rattle.bits.specs.Fields.{encode, decode}
 use Rattle.table.specs.Rows.{rows}
-use Rattle.table.specs.Find.{find-from, find-row}
+use Rattle.table.specs.Find.{find-from, find-row, row-number}
 use Rattle.table.specs.Rule.{pick, held}
+use Rattle.table.specs.Row.{smallest, largest}
 use Rattle.entry.specs.Limits.{verdict-code, first-fault, whole-verdict, real-verdict, by-kind, kind-verdict}
 use Rattle.entry.specs.Entry.{entry-of, stored as entry-stored, default-of, defaulted, defaults, number-verdict, row-verdict}
 use Rattle.card.specs.Card.{enable, point-fields, point-bits, card-bits, card-of, fields-of, layout-verdict, level-verdict, first-bad, point-verdict, card-verdict, with-point, with-card}
@@ -19,7 +20,7 @@ use Rattle.gate.specs.Lock.{guarded, locked}
 use Rattle.command.specs.Words.{command-at, word-of, read-word, status-of, with-status, same-bytes}
 use Rattle.gauge.specs.PowerUp.{fresh-values, powered-up}
 use Rattle.gauge.specs.Commands.{status-by, done, obeyed}
-use Rattle.gauge.specs.Checks.{row-number, smallest, largest, code-of, is-no-index, is-no-sub, verdict-of, fails, read-order, key-order, last-order, refused-by, unless-refused}
+use Rattle.gauge.specs.Checks.{code-of, is-no-index, is-no-sub, verdict-of, fails, read-order, key-order, last-order, refused-by, unless-refused}
 use Rattle.gauge.specs.Whole.{by-type, value-of, read-checked, read-whole, sizes-checked, write-sizes, effect, write-by, with-trips, commit-whole}
 use Rattle.order.specs.Gauge.{by-length, narrowed, narrow, counted, judged, judged-by, write-whole, read-result, write-result, written, result, after, results}
 use Rattle.order.specs.Observe.{gained-by, gain, ended, ended-early, if-yes, noted, note, onward, read-done, part-done, finished, placed, follow-one, follow, observe-one, observe}

@@ -25,6 +25,7 @@ use Rattle.card.specs.Card.{card-of, card-verdict, with-card}
 use Rattle.block.specs.Saved.{storable, loadable, loaded}
 use Rattle.block.specs.Saved as saved
 use Rattle.table.specs.Codes.{lock-shut}
+use Rattle.table.specs.Find.{row-number}
 use Rattle.gate.specs.Lock.{locked}
 use Rattle.command.specs.Words.{command-at, word-of, read-word, with-status, same-bytes}
 use Rattle.command.specs.Exceptions.{exceptions-cleared}
@@ -34,7 +35,7 @@ use Rattle.gauge.specs.Memory.{Memory, memory-of}
 use Rattle.gauge.specs.PowerUp.{fresh-values, powered-up}
 use Rattle.gauge.specs.Commands.{status-by, done, obeyed}
 use Rattle.gauge.specs.Endings.{Left, left, left-by}
-use Rattle.gauge.specs.Checks.{asked-last, row-number, Test, code-of, verdict-of, fails, last-order, refused-by, unless-refused, told}
+use Rattle.gauge.specs.Checks.{asked-last, Test, code-of, verdict-of, fails, last-order, refused-by, unless-refused, told}
 use Rattle.gauge.specs.Whole.{by-type, value-of, effect, write-by, commit-row}
 use Rattle.gauge.specs.declared.commit.Ending.the-variants.{Accepted, Restarted, Refused}
 use Rattle.gauge.proofs.InOrder.{none-told}

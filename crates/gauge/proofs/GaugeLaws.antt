@@ -19,7 +19,7 @@ use Rattle.table.specs.Row.{Row, no-row, CARD, COMMAND}
 use Rattle.table.specs.Rows.{rows, row-count, at-row}
 use Rattle.table.specs.Rule.{pick, held}
 use Rattle.table.specs.Walk.{every}
-use Rattle.table.specs.Find.{find-row}
+use Rattle.table.specs.Find.{find-row, row-number}
 use Rattle.table.proofs.Walks.{every-at}
 use Rattle.table.proofs.Table.{rows-length, lock-found}
 use Rattle.table.specs.Places.{latched-status, latched-size, latched, summary-byte}
@@ -43,7 +43,7 @@ use Rattle.gauge.specs.Memory.{Memory, with-values}
 use Rattle.gauge.specs.PowerUp.{powered-up}
 use Rattle.gauge.specs.Commands.{done, obeyed}
 use Rattle.gauge.specs.Endings.{left, left-by}
-use Rattle.gauge.specs.Checks.{asked, asked-last, fails, under-lock, row-number, Test, verdict-of, last-order, refused-by, unless-refused, told}
+use Rattle.gauge.specs.Checks.{asked, asked-last, fails, under-lock, Test, verdict-of, last-order, refused-by, unless-refused, told}
 use Rattle.gauge.specs.Whole.{value-of, effect, write-by, commit-row}
 use Rattle.gauge.specs.declared.commit.Ending.the-variants.{Refused}
 use Rattle.gauge.proofs.InOrder.{each-passes}

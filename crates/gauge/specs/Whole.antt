@@ -4,7 +4,7 @@ use mathlib.Core.List.{List, _++_}
 use Prim.Native.Nat.{ℕ}
 use lib.Dec.{eqb}
 use Rattle.order.specs.Talk.{unsaid, Read, value, denied, Sizes, sizes, closed, Outcome, stored, restarted, declined}
-use Rattle.table.specs.Row.{Row, CARD, COMMAND}
+use Rattle.table.specs.Row.{Row, smallest, largest, CARD, COMMAND}
 use Rattle.table.specs.Find.{find-row}
 use Rattle.entry.specs.Entry.{entry-of}
 use Rattle.entry.specs.Entry as entry
@@ -13,7 +13,7 @@ use Rattle.trip.specs.Trip.{all-off}
 use Rattle.command.specs.Words.{command-at, read-word}
 use Rattle.gauge.specs.Memory.{Memory, Store, with-values}
 use Rattle.gauge.specs.Commands.{obeyed}
-use Rattle.gauge.specs.Checks.{Asked, asked, asked-key, asked-last, number-asked, row-asked, smallest, largest, sent, Test, read-order, key-order, last-order, write-order, refused-by, unless-refused}
+use Rattle.gauge.specs.Checks.{Asked, asked, asked-key, asked-last, row-asked, sent, Test, read-order, key-order, last-order, write-order, refused-by, unless-refused}
 
 -- by type: the card is a view, a command word has its printed value, all else is stored
 unfoldable pub by-type : {A : Type 0} → Row → A → A → A → A
@@ -35,7 +35,7 @@ read-whole g index sub = read-checked g (asked-key (find-row index sub))
 
 -- the lengths that a write may have, by its key
 unfoldable pub sizes-checked : Asked → Sizes
-sizes-checked a = unless-refused (refused-by a key-order) closed (sizes (smallest (number-asked a)) (largest (number-asked a)))
+sizes-checked a = unless-refused (refused-by a key-order) closed (sizes (smallest (row-asked a)) (largest (row-asked a)))
 
 unfoldable pub write-sizes : ℕ → ℕ → Sizes
 write-sizes index sub = sizes-checked (asked-key (find-row index sub))

@@ -1,12 +1,14 @@
 -- `line::write::conclude`: by the ending. Assumes nothing.
 use borrow.Author.Needs.{needs}
+use Rattle.table.specs.Rows.{at-row}
+use Rattle.table.proofs.Lengths.{room-allowed}
 use Rattle.state.specs.State.{settled}
 use Rattle.line.specs.Answering.{state-by}
 use Rattle.line.proofs.write.conclude.Statement.{statement}
 use Rattle.line.proofs.write.conclude.Tie as tie
 
 commit-requires : tie.Need-commit-requires
-commit-requires c κs = search needs
+commit-requires c κs = let s = c .before .before .before .before .before .before in (s .pre .0 .values-long, s .pre .0 .block-long, s .pre .1, s .pre .2, room-allowed (at-row (s .args .row)) (s .pre .3))
 
 enum-told : tie.Need-enum-told
 enum-told c = search needs
