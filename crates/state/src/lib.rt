@@ -15,9 +15,13 @@ ghost use Rattle.state.specs.State.{record-at, record-tail, record-bytes
 
 // How many they are, where each line's record and the trip states stand, and how many bytes a record has.
 pub const SIZE: usize = 256;
+
 pub const TOOL: usize = 0;
+
 pub const SERVICE: usize = 96;
+
 pub const RECORD: usize = 70;
+
 const TRIPS: usize = 192;
 
 fn direction_of(n: u8) -> Direction
