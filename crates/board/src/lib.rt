@@ -12,17 +12,29 @@ ghost use Rattle.board.specs.Calls.{Lent, called, served, message-call, 
 
 // The sizes of what is lent, the lines, and the numbers that a call gives back, as include/gauge.h names them.
 const VALUES_SIZE: usize = 1024;
+
 const BLOCK_SIZE: usize = 512;
+
 const MESSAGE_SIZE: usize = 8;
+
 const ANSWER_SIZE: usize = 8;
+
 const IMAGE_SIZE: usize = 10;
+
 const LINE_TOOL: u32 = 0;
+
 const LINE_SERVICE: u32 = 1;
+
 const DONE: u32 = 0;
+
 const BAD_MESSAGE: u32 = 1;
+
 const SHORT_ROOM: u32 = 2;
+
 const BAD_LINE: u32 = 3;
+
 const BAD_MEMORY: u32 = 4;
+
 const CLIENT_ABORT: u32 = 5;
 
 fn place_of(line: u32) -> usize

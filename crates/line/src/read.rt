@@ -82,7 +82,15 @@ fn short_answer(values: &[u8], k: Key, row: usize, kind: u8, len: usize) -> [u8;
 }
 
 // A read is opened on the row of its key.
-fn open_row(values: &[u8], state: &mut [u8], at: usize, k: Key, row: usize, shape: u16, room: &mut [u8])
+fn open_row(
+    values: &[u8],
+    state: &mut [u8],
+    at: usize,
+    k: Key,
+    row: usize,
+    shape: u16,
+    room: &mut [u8],
+)
     requires { ⌜ (length (now values) ≡ 1024) × Room at (now state) (now room) × (row < row-count) × (k ≡ key-at row) × (shape ≡ row-shape (at-row row)) ⌝ }
     ensures { λ _. ⌜ kept (now (state .exit)) (now (room .exit)) ≡ replied at (now (state .entry)) (now (room .entry)) (zero-record-at row) (read-opening plain eight k (value (value-of (at-row row) (now (values .entry))))) ⌝ }
 {

@@ -44,7 +44,15 @@ fn length_fault(low: usize, high: usize, n: usize) -> u32
 
 // A whole write ends the transfer; after a device reset no line has one. The room has the answer that says yes; where the write is
 // refused the abort takes its place.
-fn conclude(values: &mut [u8], block: &mut [u8], state: &mut [u8], at: usize, row: usize, bytes: &[u8], room: &mut [u8])
+fn conclude(
+    values: &mut [u8],
+    block: &mut [u8],
+    state: &mut [u8],
+    at: usize,
+    row: usize,
+    bytes: &[u8],
+    room: &mut [u8],
+)
     requires { ⌜ Ready at (now values) (now block) (now state) (now room) × Writable row × (length (now bytes) ≡ at-row row .len) ⌝ }
     ensures { λ _. ⌜ ((agreed : Answer Entry) (before : List ℕ) → length (answer-of agreed) ≡ 8 → now (room .entry) ≡ splice before 0 (answer-of agreed) → told (now (values .exit)) (now (block .exit)) (now (state .exit)) (now (room .exit)) ≡ told-by at (now (state .entry)) before (spoken-over zero-record (conclude plain (store-of (now (values .entry)) (now (block .entry)) (now (state .entry))) (key-at row) agreed (plain .commit (store-of (now (values .entry)) (now (block .entry)) (now (state .entry))) (key-at row) (now (bytes .entry)))))) ⌝ }
 {
@@ -60,7 +68,15 @@ fn conclude(values: &mut [u8], block: &mut [u8], state: &mut [u8], at: usize, ro
 // ---- parts: count bytes of m, from a byte on
 
 // A part that is not the last.
-fn take_more(state: &mut [u8], at: usize, t: Transfer, m: &[u8], from: usize, count: usize, room: &mut [u8])
+fn take_more(
+    state: &mut [u8],
+    at: usize,
+    t: Transfer,
+    m: &[u8],
+    from: usize,
+    count: usize,
+    room: &mut [u8],
+)
     requires { ⌜ Room at (now state) (now room) × (from + count ≤ length (now m)) × Writable (t .row) × (t .len ≡ at-row (t .row) .len) × (t .place ≤ t .len) × (t ≡ record-at (now state) at) ⌝ }
     ensures { λ _. ⌜ kept (now (state .exit)) (now (room .exit)) ≡ replied at (now (state .entry)) (now (room .entry)) t (take-more plain (key-at (t .row)) (t .len) (t .len) (take (t .place) (t .held) ++ take count (drop from (now (m .entry)))) (not (t .toggle)) (part-taken (t .toggle))) ⌝ }
 {
@@ -148,7 +164,16 @@ fn open_parts(state: &mut [u8], at: usize, k: Key, row: usize, len: usize, room:
 }
 
 // A write of the value that is lent, of the row's own length.
-fn with_value(values: &mut [u8], block: &mut [u8], state: &mut [u8], at: usize, k: Key, row: usize, bytes: &[u8], room: &mut [u8])
+fn with_value(
+    values: &mut [u8],
+    block: &mut [u8],
+    state: &mut [u8],
+    at: usize,
+    k: Key,
+    row: usize,
+    bytes: &[u8],
+    room: &mut [u8],
+)
     requires { ⌜ Ready at (now values) (now block) (now state) (now room) × (Writable row × (k ≡ key-at row)) × (length (now bytes) ≡ at-row row .len) ⌝ }
     ensures { λ _. ⌜ told (now (values .exit)) (now (block .exit)) (now (state .exit)) (now (room .exit)) ≡ told-by at (now (state .entry)) (now (room .entry)) (spoken-over zero-record (conclude plain (store-of (now (values .entry)) (now (block .entry)) (now (state .entry))) k (write-opened k) (plain .commit (store-of (now (values .entry)) (now (block .entry)) (now (state .entry))) k (now (bytes .entry))))) ⌝ }
 {
@@ -178,7 +203,16 @@ fn write_sized(
         reply::refused(state, at, room, k, fault);
         return;
     }
-    with_value(values, block, state, at, k, row, &m[from..from + count], room);
+    with_value(
+        values,
+        block,
+        state,
+        at,
+        k,
+        row,
+        &m[from..from + count],
+        room,
+    );
 }
 
 // A write of the entry's own length, of the count bytes that stand from a byte on.
@@ -206,7 +240,15 @@ fn write_own(
 }
 
 // A write in parts, its length announced.
-fn open_announced(state: &mut [u8], at: usize, k: Key, row: usize, len: usize, n: u32, room: &mut [u8])
+fn open_announced(
+    state: &mut [u8],
+    at: usize,
+    k: Key,
+    row: usize,
+    len: usize,
+    n: u32,
+    room: &mut [u8],
+)
     requires { ⌜ Room at (now state) (now room) × (len ≤ 64) ⌝ }
     ensures { λ _. ⌜ kept (now (state .exit)) (now (room .exit)) ≡ replied at (now (state .entry)) (now (room .entry)) (zero-record-at row) (write-opening plain k [] (narrowed len len (announced n))) ⌝ }
 {
@@ -235,8 +277,32 @@ fn open_on(
 {
     let len = find::field::len_in(shape);
     match opening {
-        Opening::Value(count) => write_sized(values, block, state, at, k, row, len, m, sdo::VALUE_AT, count, room),
-        Opening::Own => write_own(values, block, state, at, k, row, len, m, sdo::VALUE_AT, sdo::VALUE, room),
+        Opening::Value(count) => write_sized(
+            values,
+            block,
+            state,
+            at,
+            k,
+            row,
+            len,
+            m,
+            sdo::VALUE_AT,
+            count,
+            room,
+        ),
+        Opening::Own => write_own(
+            values,
+            block,
+            state,
+            at,
+            k,
+            row,
+            len,
+            m,
+            sdo::VALUE_AT,
+            sdo::VALUE,
+            room,
+        ),
         Opening::Announced(n) => open_announced(state, at, k, row, len, n, room),
         Opening::Unsaid => open_parts(state, at, k, row, len, room),
     }
@@ -257,7 +323,18 @@ pub fn open_write(
 {
     let gate = gate::to_write(k.index, k.sub);
     match gate {
-        Gate::Open(row, shape) => open_on(values, block, state, at, k, row, shape, opening, m, room),
+        Gate::Open(row, shape) => open_on(
+            values,
+            block,
+            state,
+            at,
+            k,
+            row,
+            shape,
+            opening,
+            m,
+            room,
+        ),
         Gate::Shut(code) => reply::refused(state, at, room, k, code),
     }
 }

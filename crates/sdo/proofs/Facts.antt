@@ -3,22 +3,20 @@ use Prim.Native.Nat.{ℕ, zero, suc, _+_, _-_, _*_, _/_, _%_, _≤_, _<_, min}
 use native.Mathlib.Omega.{arith}
 use native.Mathlib.Nat.{add-zero}
 use mathlib.Core.Path.{_≡_, refl, sym, ap, ap₂, _∙_}
-use mathlib.Core.Bool.{Bool, true, false, _&&_}
+use mathlib.Core.Bool.{Bool, true, and-eq-true-iff}
 use mathlib.Core.List.{List, [], _∷_, _++_}
+use lib.Dec.{leb}
 use lib.ListN.{length, take, drop, getD, replicate, length-take, length-drop}
 use lib.Seq.{getD-drop}
+use borrow.Author.Tests.{leb-true}
 use Rattle.wire.specs.Little.{little}
 use Rattle.order.specs.Talk.{opened, part-given}
 use Rattle.sdo.specs.declared.Key.{Key}
-use Rattle.sdo.specs.Eight.{choice, one, answer-of}
+use Rattle.sdo.specs.Eight.{choice, one, answer-of, short}
 
 -- a test whose result is known settles the definition's test
 pub said : {r s b : Bool} → r ≡ s → r ≡ b → s ≡ b
 said p q = sym p ∙ q
-
-pub and-first : (a b : Bool) → a ≡ true → b ≡ (a && b)
-and-first true b e = refl
-and-first false b e = cc
 
 pub above-four : {A : Type 0} (n : ℕ) (a₀ a₁ a₂ a₃ a₄ above : A) → 5 ≤ n → choice n a₀ a₁ a₂ a₃ a₄ above ≡ above
 unfolding choice
@@ -66,6 +64,10 @@ part-laid l p t last h b0 b1 b2 b3 b4 b5 b6 eh e0 e1 e2 e3 e4 e5 e6 =
     let z : getD (drop p l) 0 0 ≡ getD l p 0 = getD-drop p l 0 0 ∙ ap (λ (i : ℕ). getD l i 0) (add-zero p) in
     ap₂ _∷_ (eh ∙ ap (λ (m : ℕ). 16 * one t + 2 * (7 - m) + one last) (sym n))
     (sym (pad7 (drop p l) ∙ cc (z, e0, e1, getD-drop p l 1 0, e2, getD-drop p l 2 0, e3, getD-drop p l 3 0, e4, getD-drop p l 4 0, e5, getD-drop p l 5 0, e6, getD-drop p l 6 0)))
+
+-- a value that is read at once has one to four bytes
+pub short-bounds : (n : ℕ) → short n ≡ true → (1 ≤ n) × (n ≤ 4)
+short-bounds n e = let both = and-eq-true-iff (leb 1 n) (leb n 4) .0 e in (leb-true 1 n (both .0), leb-true n 4 (both .1))
 
 -- a small number in four bytes
 pub little-small : (n : ℕ) → n < 256 → little 4 n ≡ n ∷ 0 ∷ 0 ∷ 0 ∷ []

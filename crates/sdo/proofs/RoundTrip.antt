@@ -6,16 +6,17 @@ use mathlib.Core.Logic.{_⊎_, inl, inr}
 use mathlib.Core.Bool.{Bool, true, false}
 use mathlib.Core.List.{List, [], _∷_, _++_}
 use lib.Dec.{eqb}
-use lib.ListN.{length, take, replicate, length-append, length-replicate}
+use lib.ListN.{length, take, getD, replicate, length-append, length-replicate}
 use lib.Seq.{take-at}
+use borrow.Author.Tests.{ne-eqb, lt-ltb, le-ltb}
 use Rattle.wire.specs.Little.{little, fromLittle, number}
 use Rattle.wire.proofs.LittleLaws.{byte-split, from-little}
-use Rattle.order.specs.Talk.{Answer, opened, part-given, write-opened, part-taken, refused, wrong-toggle, no-transfer, silent}
+use Rattle.order.specs.Talk.{Answer, opened, part-given, write-opened, part-taken, refused, dropped, no-transfer, silent}
+use Rattle.order.specs.Promise.{is-abort}
 use Rattle.sdo.specs.declared.Key.{Key}
-use Rattle.sdo.specs.Eight.{bit, one, transfer-code, toggle-code, answer-of, tell-of, Carried}
+use Rattle.sdo.specs.Eight.{has, one, transfer-code, answer-of, tell-of, Carried}
 
--- the index is read back from its bytes
--- and a number of four bytes behind the key
+-- a number of four bytes is read back from behind the key
 number-back : (a b c d n : ℕ) → n < 0x1_0000_0000 → number (a ∷ b ∷ c ∷ d ∷ little 4 n) 4 4 ≡ n
 unfolding number little fromLittle
 number-back a b c d n h = from-little 4 n h
@@ -30,7 +31,7 @@ round-opened k n (a ∷ b ∷ c ∷ d ∷ []) e p q = rw (e, byte-split (k .inde
 round-opened k n (a ∷ b ∷ c ∷ d ∷ x ∷ bytes) e p q = absurd (omega arith)
 
 -- the first byte of a part: its class, its toggle, its unused bytes, its last mark
-round-by : (t last : Bool) (b : ℕ) (bytes : List ℕ) (rest : List ℕ) → b / 32 ≡ 0 → bit 16 b ≡ t → b / 2 % 8 ≡ 7 - length bytes → bit 1 b ≡ last → take (7 - (7 - length bytes)) rest ≡ bytes
+round-by : (t last : Bool) (b : ℕ) (bytes : List ℕ) (rest : List ℕ) → b / 32 ≡ 0 → has 16 b ≡ t → b / 2 % 8 ≡ 7 - length bytes → has 1 b ≡ last → take (7 - (7 - length bytes)) rest ≡ bytes
     → tell-of (b ∷ rest) ≡ part-given t bytes last
 unfolding tell-of
 round-by t last b bytes rest e₀ e₁ e₂ e₃ e₄ = rw (e₀, e₁, e₂, e₄) (ap (part-given t bytes) e₃)
@@ -43,8 +44,8 @@ eqb-one : (t : Bool) → eqb (one t) 1 ≡ t
 eqb-one true = refl
 eqb-one false = refl
 
-bit-is : (w b : ℕ) (t : Bool) → b / w % 2 ≡ one t → bit w b ≡ t
-bit-is w b t e = ap (λ (n : ℕ). eqb n 1) e ∙ eqb-one t
+has-is : (w b : ℕ) (t : Bool) → b / w % 2 ≡ one t → has w b ≡ t
+has-is w b t e = ap (λ (n : ℕ). eqb n 1) e ∙ eqb-one t
 
 round-part : (t last : Bool) (bytes : List ℕ) → length bytes ≤ 7 → tell-of (answer-of (part-given t bytes last)) ≡ part-given t bytes last
 unfolding answer-of
@@ -52,7 +53,7 @@ round-part t last bytes h =
     let b : ℕ = 16 * one t + 2 * (7 - length bytes) + one last in
     let h₁ : one t ≤ 1 = one-le t in
     let h₂ : one last ≤ 1 = one-le last in
-    round-by t last b bytes (bytes ++ replicate (7 - length bytes) 0) (omega arith) (bit-is 16 b t (omega arith)) (omega arith) (bit-is 1 b last (omega arith))
+    round-by t last b bytes (bytes ++ replicate (7 - length bytes) 0) (omega arith) (has-is 16 b t (omega arith)) (omega arith) (has-is 1 b last (omega arith))
     (take-at bytes (replicate (7 - length bytes) 0) (7 - (7 - length bytes)) (omega arith))
 
 -- THEOREM
@@ -65,8 +66,9 @@ round (write-opened k) h = rw (byte-split (k .index))
 round (part-taken true) h = refl
 round (part-taken false) h = refl
 round (refused k c) h =
-    rw (byte-split (k .index), number-back 0x80 (k .index % 256) (k .index / 256) (k .sub) c (h .fits), h .not-transfer, h .not-toggle)
-round (wrong-toggle k) h = rw (byte-split (k .index), number-back 0x80 (k .index % 256) (k .index / 256) (k .sub) toggle-code (omega arith))
+    rw (byte-split (k .index), number-back 0x80 (k .index % 256) (k .index / 256) (k .sub) c (h .fits), ne-eqb c transfer-code (λ e. absurd (omega (arith, e, h .from))), le-ltb c 0x06020000 (h .from))
+round (dropped k c) h =
+    rw (byte-split (k .index), number-back 0x80 (k .index % 256) (k .index / 256) (k .sub) c (omega (arith, h .before)), h .not-transfer, lt-ltb c 0x06020000 (h .before))
 round no-transfer h = rw (number-back 0x80 0 0 0 transfer-code (omega arith))
 round silent h = refl
 
@@ -79,6 +81,23 @@ answer-eight (part-given t bytes last) h = inr (simp (length-append, length-repl
 answer-eight (write-opened k) h = inr refl
 answer-eight (part-taken t) h = inr refl
 answer-eight (refused k c) h = inr refl
-answer-eight (wrong-toggle k) h = inr refl
+answer-eight (dropped k c) h = inr refl
 answer-eight no-transfer h = inr refl
 answer-eight silent h = inl refl
+
+-- bytes that begin with 80 are an abort's
+pub abort-told : (t : Answer Key) → getD (answer-of t) 0 0 ≡ 0x80 → is-abort t ≡ true
+unfolding answer-of is-abort
+abort-told (opened k n bytes true) e = absurd (omega (arith, e))
+abort-told (opened k n bytes false) e = absurd (omega (arith, e))
+abort-told (part-given true bytes true) e = absurd (omega (arith, e))
+abort-told (part-given true bytes false) e = absurd (omega (arith, e))
+abort-told (part-given false bytes true) e = absurd (omega (arith, e))
+abort-told (part-given false bytes false) e = absurd (omega (arith, e))
+abort-told (write-opened k) e = absurd (omega (arith, e))
+abort-told (part-taken true) e = absurd (omega (arith, e))
+abort-told (part-taken false) e = absurd (omega (arith, e))
+abort-told (refused k c) e = refl
+abort-told (dropped k c) e = refl
+abort-told no-transfer e = refl
+abort-told silent e = absurd (omega (arith, e))

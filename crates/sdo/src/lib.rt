@@ -4,8 +4,11 @@ pub mod decode;
 
 // The bytes of a part and where they begin; the room for a value in an opening and where it begins.
 pub const PART: usize = 7;
+
 pub const PART_AT: usize = 1;
+
 pub const VALUE: usize = 4;
+
 pub const VALUE_AT: usize = 4;
 
 // An entry's name: index and subindex.

@@ -1,24 +1,30 @@
 -- A record and the transfer that it stands for: each is got back from the other.
-use Prim.Native.Nat.{ℕ, _≤_, _<_}
+use Prim.Native.Nat.{ℕ, zero, suc, _+_, _≤_, _<_}
 use native.Mathlib.Omega.{arith}
-use mathlib.Core.Path.{_≡_, refl, sym, ap₂}
+use native.Mathlib.Nat.{zero-add}
+use mathlib.Core.Path.{_≡_, refl, sym, ap₂, _∙_}
 use mathlib.Core.Logic.{_⊎_, inl, inr}
-use mathlib.Core.Bool.{Bool, true, false, cond, and-eq-true-iff}
-use mathlib.Core.List.{List, _++_}
+use mathlib.Core.Bool.{Bool, true, false, cond, not, _&&_, and-eq-true-iff}
+use mathlib.Core.List.{List, [], _∷_, _++_, append-assoc}
 use lib.Dec.{eqb, ltb}
-use lib.ListN.{length, drop, length-append, length-drop}
-use lib.Seq.{take-at, length-take-le}
+use lib.ListN.{length, take, drop, replicate, length-append, length-drop, take-append-drop}
+use lib.Seq.{take-at, take-take, length-take-le}
 use borrow.Author.Tests.{lt-ltb, eq-eqb, le-leb, ltb-true, eqb-true, leb-true}
-use Rattle.order.specs.Talk.{Request, open-read, next-part, expedited, open-write, send-part, give-up, unknown, Pending, idle, reading, writing}
+use Rattle.wire.specs.Splice.{splice}
+use Rattle.wire.proofs.SpliceLaws.{part-same}
+use Rattle.order.specs.Talk.{Request, open-read, next-part, expedited, open-write, send-part, give-up, unknown, no-transfer, Pending, idle, reading, writing}
+use Rattle.order.specs.Serve.{Form, over, read-part, keeping, write-part}
 use Rattle.table.specs.Rows.{row-count, at-row}
 use Rattle.table.specs.Find.{find-row}
 use Rattle.table.specs.declared.Found.the-variants.{At}
 use Rattle.table.proofs.Table.{row-rule, find-at, row-found}
 use Rattle.sdo.specs.declared.Key.{Key}
-use Rattle.sdo.specs.declared.Direction.{Direction}
-use Rattle.sdo.specs.declared.Direction.the-variants.{Neither, Reads, Writes}
-use Rattle.sdo.specs.declared.Transfer.{Transfer}
-use Rattle.sdo.specs.Records.{zero-record, key-at, number-found, row-of, allows, RowOf, counts, pending, view, base, lay}
+use Rattle.sdo.specs.Lines.{Entries, gauge}
+use Rattle.transfer.specs.declared.Direction.{Direction}
+use Rattle.transfer.specs.declared.Direction.the-variants.{Neither, Reads, Writes}
+use Rattle.transfer.specs.declared.Transfer.{Transfer}
+use Rattle.transfer.specs.Records.{zero-record, key-at, number-found, row-of, allows, RowOf, counts, pending, view, zero-record-at, base, lay}
+use Rattle.transfer.specs.Turns.{is-reading, is-writing, filled, opened-record, turned, grown}
 
 -- a transfer of an entry whose row allows it, of the row's length, with its place inside
 pub record Fits (d : Direction) (row : ℕ) (k : Key) (len place : ℕ) : Type 0 where
@@ -162,3 +168,109 @@ served-small t (inl c) =
     let p : t .place ≤ t .len = f .place-in in
     record { row-fits = omega arith; len-fits = omega arith; place-fits = omega arith }
 served-small t (inr e) = rw e (record { row-fits = omega arith; len-fits = omega arith; place-fits = omega arith })
+
+-- ---- a part, by whether the record holds a transfer of its direction
+
+pub and-first : (a b : Bool) → a ≡ true → b ≡ (a && b)
+and-first true b e = refl
+and-first false b e = cc
+
+module _ (t : Transfer) where
+  -- a record that reads is seen as a read of the bytes that it holds
+  pub view-reading : (is-reading (t .direction) && counts t) ≡ true → view t ≡ reading (key-at (t .row)) (take (t .len) (t .held)) (t .place) (t .toggle)
+  unfolding view pending is-reading
+  view-reading = go (t .direction) (counts t)
+    where
+      go : (d : Direction) (c : Bool) → (is-reading d && c) ≡ true → cond c (pending d t) idle ≡ reading (key-at (t .row)) (take (t .len) (t .held)) (t .place) (t .toggle)
+      go Neither c e = cc
+      go Reads true e = refl
+      go Reads false e = cc
+      go Writes c e = cc
+
+  -- one that writes, as a write of the row's length
+  pub view-writing : (is-writing (t .direction) && counts t) ≡ true → view t ≡ writing (key-at (t .row)) (t .len) (t .len) (take (t .place) (t .held)) (t .toggle)
+  unfolding view pending is-writing
+  view-writing = go (t .direction) (counts t)
+    where
+      go : (d : Direction) (c : Bool) → (is-writing d && c) ≡ true → cond c (pending d t) idle ≡ writing (key-at (t .row)) (t .len) (t .len) (take (t .place) (t .held)) (t .toggle)
+      go Neither c e = cc
+      go Reads c e = cc
+      go Writes true e = refl
+      go Writes false e = cc
+
+  module _ (E : Entries) where
+    -- the part of a read that the record does not hold
+    pub no-reading : (F : Form) (u : Bool) → (is-reading (t .direction) && counts t) ≡ false → read-part (gauge E) F (view t) u ≡ over (gauge E) no-transfer
+    unfolding view pending is-reading read-part
+    no-reading F u = go (t .direction) (counts t)
+      where
+        go : (d : Direction) (c : Bool) → (is-reading d && c) ≡ false → read-part (gauge E) F (cond c (pending d t) idle) u ≡ over (gauge E) no-transfer
+        go Neither true e = refl
+        go Neither false e = refl
+        go Reads true e = cc
+        go Reads false e = refl
+        go Writes true e = refl
+        go Writes false e = refl
+
+    pub no-writing : (g : E .Store) (u : Bool) (bytes : List ℕ) (last : Bool) → (is-writing (t .direction) && counts t) ≡ false
+        → write-part (gauge E) g (view t) u bytes last ≡ keeping (gauge E) g (over (gauge E) no-transfer)
+    unfolding view pending is-writing write-part
+    no-writing g u bytes last = go (t .direction) (counts t)
+      where
+        go : (d : Direction) (c : Bool) → (is-writing d && c) ≡ false → write-part (gauge E) g (cond c (pending d t) idle) u bytes last ≡ keeping (gauge E) g (over (gauge E) no-transfer)
+        go Neither true e = refl
+        go Neither false e = refl
+        go Reads true e = refl
+        go Reads false e = refl
+        go Writes true e = cc
+        go Writes false e = refl
+
+  -- what is known of a record that counts in some direction
+  pub held-fits : (b : Bool) → (b && counts t) ≡ true → Fits (t .direction) (t .row) (key-at (t .row)) (t .len) (t .place)
+  held-fits b e = counts-fits t (and-eq-true-iff b (counts t) .0 e .1)
+
+-- ---- the record after a part
+
+module _ (t : Transfer) where
+  -- after a part of a read that was not the last
+  pub lay-reading : (size : ℕ) → t .len ≤ length (t .held) → lay t (reading (key-at (t .row)) (take (t .len) (t .held)) (t .place + size) (not (t .toggle))) ≡ turned t size
+  unfolding lay
+  lay-reading size h =
+      let n : length (take (t .len) (t .held)) ≡ t .len = length-take-le (t .len) (t .held) h in
+      rw (n, take-append-drop)
+
+  -- with a part of a write: the bytes sent, the part's included
+  module _ (bytes : List ℕ) (inside : t .place ≤ length (t .held)) where
+    pub sent-length : length (take (t .place) (t .held) ++ bytes) ≡ t .place + length bytes
+    sent-length = rw (length-append, length-take-le (t .place) (t .held) inside)
+
+    pub lay-writing : (low : ℕ) → lay t (writing (key-at (t .row)) low (t .len) (take (t .place) (t .held) ++ bytes) (not (t .toggle))) ≡ grown t bytes
+    unfolding lay splice
+    lay-writing low = rw (sent-length, append-assoc)
+
+    -- all of a write stands in the record that its last part makes
+    pub all-held : t .place + length bytes ≡ t .len → take (t .len) ((grown t bytes) .held) ≡ take (t .place) (t .held) ++ bytes
+    unfolding splice
+    all-held e = rw (← append-assoc) (take-at (take (t .place) (t .held) ++ bytes) (drop (t .place + length bytes) (t .held)) (t .len) (sent-length ∙ e))
+
+-- a part that ends inside the first m
+pub part-within : (n p m : ℕ) (l : List ℕ) → p + n ≤ m → take n (drop p (take m l)) ≡ take n (drop p l)
+part-within n zero m l h = take-take n m l (omega arith)
+part-within n (suc p) zero l h = absurd (omega arith)
+part-within n (suc p) (suc m) [] h = refl
+part-within n (suc p) (suc m) (x ∷ xs) h = part-within n p m xs (omega arith)
+
+-- ---- the record after an opening
+
+-- of a read whose answer carries none of the value
+pub lay-opened : (row : ℕ) (k : Key) (bytes : List ℕ) → lay (zero-record-at row) (reading k bytes 0 false) ≡ opened-record Reads row (filled bytes) (length bytes)
+unfolding lay splice
+lay-opened row k bytes = rw (zero-add (length bytes))
+
+pub lay-begun : (row : ℕ) (k : Key) (low high : ℕ) → lay (zero-record-at row) (writing k low high [] false) ≡ opened-record Writes row (replicate 64 0) high
+unfolding lay
+lay-begun row k low high = refl
+
+-- the bytes that a whole value's record begins with
+pub filled-value : (bytes : List ℕ) (len : ℕ) → length bytes ≡ len → take len (filled bytes) ≡ bytes
+filled-value bytes len e = part-same (replicate 64 0) 0 bytes refl len e

@@ -1,8 +1,8 @@
 -- `access_allows` meets its contract, by the direction.
-use Rattle.sdo.specs.Records.{allows}
+use Rattle.transfer.specs.Records.{allows}
 use borrow.Author.Needs.{needs}
-use Rattle.sdo.proofs.record.access_allows.Statement.{statement}
-use Rattle.sdo.proofs.record.access_allows.Tie as tie
+use Rattle.transfer.proofs.access_allows.Statement.{statement}
+use Rattle.transfer.proofs.access_allows.Tie as tie
 
 enum-told : tie.Need-enum-told
 enum-told c = search needs

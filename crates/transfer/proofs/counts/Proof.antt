@@ -2,9 +2,9 @@
 use borrow.Author.Tests.{eq-eqb, ne-eqb, lt-ltb, le-ltb}
 use borrow.Author.Needs.{needs}
 use Rattle.find.proofs.Shapes.{access-told, len-told}
 use Rattle.sdo.proofs.Facts.{said}
-use Rattle.sdo.proofs.record.counts.Statement.{statement}
-use Rattle.sdo.proofs.record.counts.Tie as tie
+use Rattle.transfer.proofs.counts.Statement.{statement}
+use Rattle.transfer.proofs.counts.Tie as tie
 
 returns : tie.Need-returns
 returns c = simp (le-ltb _ _ (c .if1 .taken))

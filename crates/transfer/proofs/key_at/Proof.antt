@@ -1,7 +1,7 @@
 -- `key_at` meets its contract: the row's index and subindex.
 use borrow.Author.Needs.{needs}
-use Rattle.sdo.proofs.record.key_at.Statement.{statement}
-use Rattle.sdo.proofs.record.key_at.Tie as tie
+use Rattle.transfer.proofs.key_at.Statement.{statement}
+use Rattle.transfer.proofs.key_at.Tie as tie
 
 index-of-requires : tie.Need-index-of-requires
 index-of-requires c κs = search needs

@@ -1,11 +1,11 @@
 -- `reading` meets its contract, by the direction.
 use mathlib.Core.Path.{ap, _∙_}
 use borrow.Author.Needs.{needs}
-use Rattle.sdo.specs.Records.{counts}
-use Rattle.sdo.specs.Replies.{is-reading}
-use Rattle.sdo.proofs.Facts.{and-first}
-use Rattle.sdo.proofs.record.reading.Statement.{statement}
-use Rattle.sdo.proofs.record.reading.Tie as tie
+use Rattle.transfer.specs.Records.{counts}
+use Rattle.transfer.specs.Turns.{is-reading}
+use Rattle.transfer.proofs.RecordLaws.{and-first}
+use Rattle.transfer.proofs.reading.Statement.{statement}
+use Rattle.transfer.proofs.reading.Tie as tie
 
 enum-told : tie.Need-enum-told
 enum-told c = search needs

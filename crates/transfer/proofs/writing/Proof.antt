@@ -1,11 +1,11 @@
 -- `writing` meets its contract, by the direction.
 use mathlib.Core.Path.{ap, _∙_}
 use borrow.Author.Needs.{needs}
-use Rattle.sdo.specs.Records.{counts}
-use Rattle.sdo.specs.Replies.{is-writing}
-use Rattle.sdo.proofs.Facts.{and-first}
-use Rattle.sdo.proofs.record.writing.Statement.{statement}
-use Rattle.sdo.proofs.record.writing.Tie as tie
+use Rattle.transfer.specs.Records.{counts}
+use Rattle.transfer.specs.Turns.{is-writing}
+use Rattle.transfer.proofs.RecordLaws.{and-first}
+use Rattle.transfer.proofs.writing.Statement.{statement}
+use Rattle.transfer.proofs.writing.Tie as tie
 
 enum-told : tie.Need-enum-told
 enum-told c = search needs
