@@ -1,3 +1,2 @@
-pub mod Doors
-pub mod Endings
-pub mod Answered
+pub mod Told
+pub mod Writing
