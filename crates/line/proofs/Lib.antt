@@ -1,2 +1,4 @@
+pub mod Told
 pub mod Doors
 pub mod Reading
+pub mod Writing
