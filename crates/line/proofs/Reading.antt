@@ -1,22 +1,21 @@
 -- Replies in the lent bytes, and the reads by cases, as the code takes them: each law takes what the calls ensure. Assumes nothing.
-use mathlib.Core.Path.{_≡_, refl, sym, ap, ap₂, _∙_}
-use mathlib.Core.Bool.{Bool, true, false, not, _&&_, Bool·beq, and-eq-true-iff}
+use mathlib.Core.Path.{_≡_, refl, sym, ap, _∙_}
+use mathlib.Core.Bool.{Bool, true, false, _&&_, Bool·beq}
 use mathlib.Core.List.{List, []}
 use Prim.Native.Nat.{ℕ, _+_, _<_, _≤_}
 use native.Mathlib.Omega.{arith}
-use lib.Dec.{leb}
 use lib.ListN.{length, take, drop}
-use lib.Seq.{take-all, take-length, length-take-le}
-use borrow.Author.Tests.{le-leb, lt-leb, leb-true}
+use lib.Seq.{take-all, length-take-le}
+use borrow.Author.Tests.{le-leb, lt-leb}
 use Rattle.wire.specs.Splice.{splice}
-use Rattle.order.specs.Talk.{Answer, part-given, refused, dropped, no-transfer, Read, value, denied, Pending, reading}
-use Rattle.order.specs.Talk.{opened as told}
-use Rattle.order.specs.Serve.{toggle-code, over, onwards, refuse, read-opening, give-part, read-part}
+use Rattle.order.specs.Talk.{part-given, refused, dropped, no-transfer, value}
+use Rattle.order.specs.Talk.{opened as read-told}
+use Rattle.order.specs.Serve.{toggle-code, read-opening, give-part, read-part}
 use Rattle.table.specs.Row.{WO, CARD}
 use Rattle.table.specs.Rows.{at-row, row-count}
 use Rattle.table.specs.Find.{find-row}
 use Rattle.gate.specs.Codes.{write-only}
-use Rattle.gate.specs.Gates.{Way, to-row, no-way, read-gate, way-of}
+use Rattle.gate.specs.Gates.{read-gate, way-of}
 use Rattle.gate.specs.declared.Gate.{Gate}
 use Rattle.gate.specs.declared.Gate.the-variants.{Open, Shut}
 use Rattle.gate.proofs.GateLaws.{opened}
@@ -27,12 +26,13 @@ use Rattle.sdo.specs.declared.Key.{Key}
 use Rattle.sdo.specs.Eight.{answer-of, short, eight}
 use Rattle.transfer.specs.declared.Direction.the-variants.{Reads}
 use Rattle.transfer.specs.declared.Transfer.{Transfer}
-use Rattle.transfer.specs.Records.{zero-record, zero-record-at, key-at, row-of, view, counts, lay}
+use Rattle.transfer.specs.Records.{zero-record, zero-record-at, key-at, row-of, view, counts}
 use Rattle.transfer.specs.Turns.{is-reading, filled, opened-record, turned}
 use Rattle.transfer.proofs.RecordLaws.{found-number, view-reading, no-reading, lay-reading, lay-opened, filled-value, part-within}
 use Rattle.state.specs.State.{record-bytes}
 use Rattle.line.specs.Gauge.{bag552, plain, store-of}
 use Rattle.line.specs.Serving.{Kept, kept, put-down, replied}
+use Rattle.line.proofs.Told.{over-replied, onwards-replied}
 use Rattle.line.proofs.Doors.{leads, stops}
 
 -- ---- replies in the lent bytes
@@ -49,30 +49,7 @@ module _ (at : ℕ) (s a : List ℕ) where
   unfolding answer-of
   dropped-put k q p = p ∙ ap (put-down at s a zero-record) q
 
-  module _ (b : Transfer) {x : Kept} {e : List ℕ} (t : Answer Key) where
-    -- a reply that ends the transfer, whatever it is laid over
-    pub over-replied : x ≡ put-down at s a zero-record e → e ≡ answer-of t → x ≡ replied at s a b (over plain t)
-    unfolding replied lay
-    over-replied p q = p ∙ ap (put-down at s a zero-record) q
-
-    -- one after which it goes on
-    pub onwards-replied : (y : Pending Key) {n : Transfer} → x ≡ put-down at s a n e → n ≡ lay b y → e ≡ answer-of t → x ≡ replied at s a b (onwards plain y t)
-    unfolding replied
-    onwards-replied y p l q = p ∙ ap₂ (put-down at s a) l q
-
 -- ---- parts
-
-beq-same : (b c : Bool) → b ≡ c → Bool·beq b c ≡ true
-beq-same true true e = refl
-beq-same true false e = cc
-beq-same false true e = cc
-beq-same false false e = refl
-
-beq-other : (b c : Bool) → (b ≡ c → ⊥) → Bool·beq b c ≡ false
-beq-other true true n = absurd (n refl)
-beq-other true false n = refl
-beq-other false true n = refl
-beq-other false false n = absurd (n refl)
 
 module _ (at : ℕ) (s a : List ℕ) (t : Transfer) (long : length (t .held) ≡ 64) (most : t .len ≤ 64) {x : Kept} {e : List ℕ} where
   pub given-last : t .len ≤ t .place + 7 → e ≡ answer-of (part-given (t .toggle) (take 7 (drop (t .place) (take (t .len) (t .held)))) true)
@@ -80,7 +57,7 @@ module _ (at : ℕ) (s a : List ℕ) (t : Transfer) (long : length (t .held) ≡
   unfolding give-part eight
   given-last h q p =
       let n : length (take (t .len) (t .held)) ≡ t .len = length-take-le (t .len) (t .held) (omega arith) in
-      rw (n, le-leb (t .len) (t .place + 7) h) (over-replied at s a t _ p q)
+      rw (n, le-leb (t .len) (t .place + 7) h) (over-replied at s a t _ q p)
 
   pub given-more : {n : Transfer} → t .place + 7 < t .len → n ≡ turned t 7 → e ≡ answer-of (part-given (t .toggle) (take 7 (drop (t .place) (t .held))) false)
       → x ≡ put-down at s a n e → x ≡ replied at s a t (give-part plain eight (key-at (t .row)) (take (t .len) (t .held)) (t .place) (t .toggle))
@@ -88,26 +65,23 @@ module _ (at : ℕ) (s a : List ℕ) (t : Transfer) (long : length (t .held) ≡
   given-more h i q p =
       let n : length (take (t .len) (t .held)) ≡ t .len = length-take-le (t .len) (t .held) (omega arith) in
       rw (n, lt-leb (t .len) (t .place + 7) h)
-      (onwards-replied at s a t _ _ p (i ∙ sym (lay-reading t 7 (omega arith))) (q ∙ ap (λ (l : List ℕ). answer-of (part-given (t .toggle) l false)) (sym (part-within 7 (t .place) (t .len) (t .held) (omega arith)))))
+      (onwards-replied at s a t _ _ _ (q ∙ ap (λ (l : List ℕ). answer-of (part-given (t .toggle) l false)) (sym (part-within 7 (t .place) (t .len) (t .held) (omega arith)))) (i ∙ sym (lay-reading t 7 (omega arith))) p)
 
 -- the record says whether a read is under way, and then its toggle whether the part is given
 module _ (at : ℕ) (s a : List ℕ) (t : Transfer) (u : Bool) {x : Kept} where
   module _ (reads : (is-reading (t .direction) && counts t) ≡ true) where
-    pub next-given : t .toggle ≡ u → x ≡ replied at s a t (give-part plain eight (key-at (t .row)) (take (t .len) (t .held)) (t .place) (t .toggle)) → x ≡ replied at s a t (read-part plain eight (view t) u)
+    pub next-given : Bool·beq (t .toggle) u ≡ true → x ≡ replied at s a t (give-part plain eight (key-at (t .row)) (take (t .len) (t .held)) (t .place) (t .toggle)) → x ≡ replied at s a t (read-part plain eight (view t) u)
     unfolding read-part
-    next-given h p = p ∙ ap (replied at s a t) (sym (rw (view-reading t reads, beq-same (t .toggle) u h)))
+    next-given h p = p ∙ ap (replied at s a t) (sym (rw (view-reading t reads, h)))
 
-    pub next-dropped : (t .toggle ≡ u → ⊥) → x ≡ put-down at s a zero-record (answer-of (dropped (key-at (t .row)) toggle-code)) → x ≡ replied at s a t (read-part plain eight (view t) u)
+    pub next-dropped : Bool·beq (t .toggle) u ≡ false → x ≡ put-down at s a zero-record (answer-of (dropped (key-at (t .row)) toggle-code)) → x ≡ replied at s a t (read-part plain eight (view t) u)
     unfolding read-part
-    next-dropped h p = over-replied at s a t _ p refl ∙ ap (replied at s a t) (sym (rw (view-reading t reads, beq-other (t .toggle) u h)))
+    next-dropped h p = over-replied at s a t _ refl p ∙ ap (replied at s a t) (sym (rw (view-reading t reads, h)))
 
   pub next-none : {e : List ℕ} → (is-reading (t .direction) && counts t) ≡ false → e ≡ answer-of no-transfer → x ≡ put-down at s a zero-record e → x ≡ replied at s a t (read-part plain eight (view t) u)
-  next-none h q p = over-replied at s a t no-transfer p q ∙ ap (replied at s a t) (sym (no-reading t bag552 eight u h))
+  next-none h q p = over-replied at s a t no-transfer q p ∙ ap (replied at s a t) (sym (no-reading t bag552 eight u h))
 
 -- ---- openings
-
-pub short-bounds : (n : ℕ) → short n ≡ true → (1 ≤ n) × (n ≤ 4)
-short-bounds n e = let a = and-eq-true-iff (leb 1 n) _ .0 e in (leb-true _ _ (a .0), leb-true _ _ (a .1))
 
 -- a value of up to four bytes is told at once
 module _ (values : List ℕ) (row : ℕ) (there : row < row-count) (long : length values ≡ 1024) {len : ℕ} (el : len ≡ at-row row .len) where
@@ -123,18 +97,18 @@ module _ (values : List ℕ) (row : ℕ) (there : row < row-count) (long : lengt
       ap (take len) (e ∙ sym v) ∙ take-all len (value-of (at-row row) values) (omega (arith, whole-length))
 
   module _ (at : ℕ) (s a : List ℕ) (k : Key) {x : Kept} {e : List ℕ} where
-    pub read-short : short len ≡ true → e ≡ answer-of (told k len (value-of (at-row row) values) true) → x ≡ put-down at s a zero-record e
+    pub read-short : short len ≡ true → e ≡ answer-of (read-told k len (value-of (at-row row) values) true) → x ≡ put-down at s a zero-record e
         → x ≡ replied at s a (zero-record-at row) (read-opening plain eight k (value (value-of (at-row row) values)))
     unfolding read-opening eight
     read-short h q p =
-        rw (whole-length, h, take-all len (value-of (at-row row) values) (omega (arith, whole-length))) (over-replied at s a (zero-record-at row) _ p q)
+        rw (whole-length, h, take-all len (value-of (at-row row) values) (omega (arith, whole-length))) (over-replied at s a (zero-record-at row) _ q p)
 
     pub read-long : {held : List ℕ} {n : Transfer} → short len ≡ false → held ≡ filled (value-of (at-row row) values) → n ≡ opened-record Reads row held len
-        → e ≡ answer-of (told k len [] false) → x ≡ put-down at s a n e → x ≡ replied at s a (zero-record-at row) (read-opening plain eight k (value (value-of (at-row row) values)))
+        → e ≡ answer-of (read-told k len [] false) → x ≡ put-down at s a n e → x ≡ replied at s a (zero-record-at row) (read-opening plain eight k (value (value-of (at-row row) values)))
     unfolding read-opening eight
     read-long h i j q p =
         rw (whole-length, h)
-        (onwards-replied at s a (zero-record-at row) _ _ p (j ∙ rw (i, ← whole-length) (sym (lay-opened row k (value-of (at-row row) values)))) q)
+        (onwards-replied at s a (zero-record-at row) _ _ _ q (j ∙ rw (i, ← whole-length) (sym (lay-opened row k (value-of (at-row row) values)))) p)
 
 -- a read goes through the gate of its key
 module _ (at : ℕ) (v s a : List ℕ) (k : Key) {g : Gate} (way : way-of g ≡ read-gate (find-row (k .index) (k .sub))) {x : Kept} where
@@ -150,4 +124,4 @@ module _ (at : ℕ) (v s a : List ℕ) (k : Key) {g : Gate} (way : way-of g ≡ 
       → x ≡ replied at s a (zero-record-at (row-of k)) (read-opening plain eight k (read-whole (store-of v [] s) (k .index) (k .sub)))
   unfolding read-opening read-through
   read-stopped c o p =
-      over-replied at s a (zero-record-at (row-of k)) (refused k c) p refl ∙ rw (read-by-gate (k .index) (k .sub) (store-of v [] s), stops WO write-only k way c o)
+      over-replied at s a (zero-record-at (row-of k)) (refused k c) refl p ∙ rw (read-by-gate (k .index) (k .sub) (store-of v [] s), stops WO write-only k way c o)

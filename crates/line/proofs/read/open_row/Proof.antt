@@ -3,8 +3,8 @@ use borrow.Author.Needs.{needs}
 use native.Mathlib.Omega.{arith}
 use Rattle.table.proofs.Table.{row-rule}
 use Rattle.find.proofs.Shapes.{kind-told, len-told}
-use Rattle.sdo.proofs.Facts.{said}
-use Rattle.line.proofs.Reading.{short-bounds, read-short, read-long}
+use Rattle.sdo.proofs.Facts.{said, short-bounds}
+use Rattle.line.proofs.Reading.{read-short, read-long}
 use Rattle.line.proofs.read.open_row.Statement.{statement}
 use Rattle.line.proofs.read.open_row.Tie as tie
 

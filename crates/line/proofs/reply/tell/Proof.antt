@@ -18,7 +18,7 @@ same-length c = search needs
 returns : tie.Need-returns
 returns c =
     let s = c .before .before .before .before .before .before in
-    let n : length (s .args .eight) ≡ 8 = search needs in answer-put (s .args .room .now) (s .args .eight) n (c .before .before .copy-at .ensures)
+    let n : length (s .args .t2) ≡ 8 = search needs in answer-put (s .args .room .now) (s .args .t2) n (c .before .before .copy-at .ensures)
 
 pub tell-spec : {M : Type 1} → statement M
 tell-spec = tie.close (tie.spec slice-aggregate-copy-at copy-at-requires same-length returns)
