@@ -17,7 +17,7 @@ use Rattle.table.specs.Rule.{pick}
 use Rattle.table.specs.declared.Found.the-variants.{At}
 use Rattle.table.proofs.Table.{find-at, row-found}
 use Rattle.trip.specs.Trip.{all-off}
-use Rattle.gate.specs.Codes.{write-only, read-only}
+use Rattle.table.specs.Codes.{write-only, read-only}
 use Rattle.gate.specs.Gates.{Way, to-row, no-way, gate, read-gate, write-gate}
 use Rattle.gate.proofs.GateLaws.{Opened, opened}
 use Rattle.gauge.specs.Memory.{Memory, Store, memory-of}

@@ -6,8 +6,8 @@ use Rattle.find.specs.Columns.{shape}
 use Rattle.table.specs.Find.{find-row}
 use Rattle.table.proofs.Table.{find-at}
 use Rattle.gate.specs.Gates.{to-row, no-way, gate, way-of, Shaped}
-use Rattle.gate.specs.declared.Gate.{Gate}
-use Rattle.gate.specs.declared.Gate.the-variants.{Open, Shut}
+use Rattle.find.specs.declared.Gate.{Gate}
+use Rattle.find.specs.declared.Gate.the-variants.{Open, Shut}
 use Rattle.gate.proofs.GateLaws.{opened, shaped}
 use Rattle.sdo.specs.declared.Key.{Key}
 use Rattle.transfer.specs.Records.{key-at}

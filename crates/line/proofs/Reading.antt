@@ -14,10 +14,10 @@ use Rattle.order.specs.Serve.{toggle-code, read-opening, give-part, read-part}
 use Rattle.table.specs.Row.{WO, CARD}
 use Rattle.table.specs.Rows.{at-row, row-count}
 use Rattle.table.specs.Find.{find-row}
-use Rattle.gate.specs.Codes.{write-only}
+use Rattle.table.specs.Codes.{write-only}
 use Rattle.gate.specs.Gates.{read-gate, way-of}
-use Rattle.gate.specs.declared.Gate.{Gate}
-use Rattle.gate.specs.declared.Gate.the-variants.{Open, Shut}
+use Rattle.find.specs.declared.Gate.{Gate}
+use Rattle.find.specs.declared.Gate.the-variants.{Open, Shut}
 use Rattle.gate.proofs.GateLaws.{opened}
 use Rattle.gauge.specs.Whole.{value-of, read-whole}
 use Rattle.gauge.proofs.ByGate.{read-through, read-by-gate}

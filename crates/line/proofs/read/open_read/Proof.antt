@@ -1,7 +1,7 @@
 -- `line::read::open_read`: each return is one law, given what the calls ensure. Assumes nothing.
 use borrow.Author.Needs.{needs}
 use Rattle.table.specs.Row.{WO}
-use Rattle.gate.specs.Codes.{write-only}
+use Rattle.table.specs.Codes.{write-only}
 use Rattle.line.proofs.Doors.{open-row}
 use Rattle.line.proofs.Reading.{read-led, read-stopped}
 use Rattle.line.proofs.read.open_read.Statement.{statement}

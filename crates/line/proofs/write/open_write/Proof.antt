@@ -3,7 +3,7 @@ use mathlib.Core.Path.{refl, ap, _∙_}
 use borrow.Author.Needs.{needs}
 use Rattle.order.specs.Talk.{refused}
 use Rattle.table.specs.Row.{RO}
-use Rattle.gate.specs.Codes.{read-only}
+use Rattle.table.specs.Codes.{read-only}
 use Rattle.sdo.specs.Eight.{answer-of}
 use Rattle.sdo.specs.Replies.{ending}
 use Rattle.line.specs.Answering.{answered, opens-write}
