@@ -6,7 +6,7 @@ use lib.Dec.{ltb, leb}
 use lib.ListN.{length}
 use Rattle.order.specs.Talk.{Request, open-read, next-part, expedited, open-write, send-part, give-up, unknown, Answer, opened, part-given, write-opened, part-taken, refused, dropped, no-transfer, silent, Read, value, denied, Sizes, sizes, closed, Outcome, stored, restarted, declined, Pending, idle, reading, writing}
 use Rattle.order.specs.Gauge.{Gauge, say, judged, allowed, write-whole}
-use Rattle.order.specs.Serve.{Form, toggle-code, Reply, over, read-opening, give-part, read-part, take-more, write-opening, Served, keeping, conclude, take-part, write-part, serve}
+use Rattle.order.specs.Serve.{Form, toggle-code, Reply, over, read-opening, give-part, read-part, take-more, write-opening, keeping, conclude, take-part, write-part, serve}
 
 -- any but the client's abort (R5.9)
 unfoldable pub Awaits : {K : Type 0} → Request K → Type 0

@@ -1,8 +1,8 @@
 -- `line::read::give_part`: each return is one law, given what the calls ensure. Assumes nothing.
-use borrow.Author.Needs.{needs}
 use mathlib.Core.Path.{_≡_}
 use native.Mathlib.Omega.{arith}
 use lib.ListN.{length}
+use borrow.Author.Needs.{needs}
 use Rattle.line.proofs.Reading.{given-last, given-more}
 use Rattle.line.proofs.read.give_part.Statement.{statement}
 use Rattle.line.proofs.read.give_part.Tie as tie

@@ -1,6 +1,6 @@
 -- `line::read::next_part`: each return is one law, given what the calls ensure. Assumes nothing.
-use borrow.Author.Needs.{needs}
 use mathlib.Core.Path.{ap, _∙_}
+use borrow.Author.Needs.{needs}
 use Rattle.order.specs.Talk.{dropped}
 use Rattle.order.specs.Serve.{toggle-code, read-part}
 use Rattle.sdo.specs.declared.Key.{Key}

@@ -1,6 +1,6 @@
 -- `line::read::open_row`: each return is one law, given what the calls ensure. Assumes nothing.
-use borrow.Author.Needs.{needs}
 use native.Mathlib.Omega.{arith}
+use borrow.Author.Needs.{needs}
 use Rattle.table.proofs.Table.{row-rule}
 use Rattle.find.proofs.Shapes.{kind-told, len-told}
 use Rattle.sdo.proofs.Facts.{said, short-bounds}

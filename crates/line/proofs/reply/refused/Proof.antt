@@ -1,6 +1,6 @@
 -- `line::reply::refused`: each return is one law, given what the calls ensure. Assumes nothing.
-use borrow.Author.Needs.{needs}
 use mathlib.Core.Path.{ap, _∙_}
+use borrow.Author.Needs.{needs}
 use Rattle.transfer.specs.Records.{zero-record}
 use Rattle.line.specs.Serving.{put-down}
 use Rattle.line.proofs.reply.refused.Statement.{statement}

@@ -1,7 +1,7 @@
 -- `line::reply::tell`: the eight bytes at the head of the room. Assumes nothing.
-use borrow.Author.Needs.{needs}
 use mathlib.Core.Path.{_≡_}
 use lib.ListN.{length}
+use borrow.Author.Needs.{needs}
 use Rattle.line.proofs.Reading.{answer-put}
 use Rattle.line.proofs.reply.tell.Statement.{statement}
 use Rattle.line.proofs.reply.tell.Tie as tie
