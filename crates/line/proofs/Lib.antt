@@ -1,3 +1,4 @@
+pub mod Told
 pub mod Doors
-pub mod Endings
-pub mod Answered
+pub mod Reading
+pub mod Writing

@@ -12,14 +12,14 @@ use Rattle.wire.specs.Flags.{is-set, bit}
 use Rattle.wire.proofs.LittleLaws.{length-little}
 use Rattle.wire.proofs.SpliceLaws.{length-splice, splice-whole, splice-behind, part-length}
 use Rattle.wire.proofs.Overlaps.{splice-inside}
-use Rattle.sdo.specs.declared.Direction.{Direction}
-use Rattle.sdo.specs.declared.Transfer.{Transfer}
-use Rattle.sdo.specs.Records.{zero-record}
-use Rattle.sdo.specs.Replies.{grown}
-use Rattle.state.specs.State.{direction-of, direction-byte, record-at, record-tail, record-bytes}
+use Rattle.transfer.specs.declared.Direction.{Direction}
+use Rattle.transfer.specs.declared.Transfer.{Transfer}
+use Rattle.transfer.specs.Records.{zero-record}
+use Rattle.transfer.specs.Turns.{grown}
+use Rattle.state.specs.State.{record-size, direction-of, direction-byte, record-at, record-tail, record-bytes}
 use Rattle.wire.proofs.InARow.{four-in-a-row}
 
-pub record-read : (s : List ℕ) (at : ℕ) {held : List ℕ} {row len place : ℕ} {d : Direction} {toggle : Bool} → at + 70 ≤ length s
+pub record-read : (s : List ℕ) (at : ℕ) {held : List ℕ} {row len place : ℕ} {d : Direction} {toggle : Bool} → at + record-size ≤ length s
     → held ≡ splice (replicate 64 0) 0 (take 64 (drop at s)) → row ≡ number s (at + 64) 2 → d ≡ direction-of (number s (at + 66) 1)
     → len ≡ number s (at + 67) 1 → place ≡ number s (at + 68) 1 → toggle ≡ is-set s (at + 69)
     → _≡_ {A = Transfer} (record { held = held; row = row; direction = d; len = len; place = place; toggle = toggle }) (record-at s at)
@@ -27,7 +27,7 @@ unfolding record-at
 record-read s at h eh er ed el ep et =
     rw (eh, er, ed, el, ep, et, splice-whole (replicate 64 0) (take 64 (drop at s)) (part-length s at 64 (omega arith)))
 
-module _ (l : List ℕ) (at : ℕ) (t : Transfer) (room : at + 70 ≤ length l) where
+module _ (l : List ℕ) (at : ℕ) (t : Transfer) (room : at + record-size ≤ length l) where
   pub tail-put : {l₁ l₂ l₃ l₄ l₅ : List ℕ} {d b : ℕ} → l₁ ≡ splice l (at + 64) (little 2 (t .row)) → d ≡ direction-byte (t .direction)
       → l₂ ≡ splice l₁ (at + 66) (little 1 d) → l₃ ≡ splice l₂ (at + 67) (little 1 (t .len)) → l₄ ≡ splice l₃ (at + 68) (little 1 (t .place))
       → b ≡ bit (t .toggle) → l₅ ≡ splice l₄ (at + 69) (little 1 b) → l₅ ≡ splice l (at + 64) (record-tail t)
@@ -52,7 +52,7 @@ module _ (l : List ℕ) (at : ℕ) (t : Transfer) (room : at + 70 ≤ length l) 
       rw (e₂, e₁, take-all 64 (t .held) (omega arith)) (splice-behind l at (t .held) tail (at + 64) (omega arith) (omega arith))
 
 -- a part of a write: its bytes, and what stands behind the held ones
-pub part-put : (l : List ℕ) (at : ℕ) (t : Transfer) (bytes : List ℕ) → at + 70 ≤ length l → t ≡ record-at l at → t .place + length bytes ≤ 64
+pub part-put : (l : List ℕ) (at : ℕ) (t : Transfer) (bytes : List ℕ) → at + record-size ≤ length l → t ≡ record-at l at → t .place + length bytes ≤ 64
     → {next : Transfer} {l₁ l₂ : List ℕ} → l₁ ≡ splice l (at + t .place) bytes → next ≡ grown t bytes → l₂ ≡ splice l₁ (at + 64) (record-tail next) → l₂ ≡ splice l at (record-bytes (grown t bytes))
 unfolding record-at record-bytes record-tail
 part-put l at t bytes room is fits e₁ en e₂ =

@@ -1,6 +1,6 @@
 -- `state::drop_all`: three writes. Assumes nothing.
 use borrow.Author.Needs.{needs}
-use Rattle.state.specs.State.{dropped}
+use Rattle.state.specs.State.{fresh-state}
 use Rattle.state.proofs.drop_all.Statement.{statement}
 use Rattle.state.proofs.drop_all.Tie as tie
 
@@ -20,7 +20,7 @@ same-length : tie.Need-same-length
 same-length c = search needs
 
 returns : tie.Need-returns
-unfolding dropped
+unfolding fresh-state
 returns c =
     let off = c .before .before .before in
     rw (c .before .before .put-trips .ensures, off .all-off .ensures, off .before .before .before .before .clear-record2 .ensures, off .before .before .before .before .before .before .before .before .clear-record .ensures)
