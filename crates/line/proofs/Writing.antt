@@ -11,9 +11,9 @@ use borrow.Author.Tests.{ltb-false, lt-ltb, le-ltb, ne-eqb}
 use Rattle.wire.specs.Splice.{splice}
 use Rattle.wire.specs.Little.{little}
 use Rattle.wire.proofs.SpliceLaws.{splice-none, splice-again, part-length}
-use Rattle.order.specs.Talk.{announced, own, Answer, write-opened, part-taken, refused, silent, Sizes, sizes, closed, Outcome, stored, restarted, declined, writing}
+use Rattle.order.specs.Talk.{announced, own, Answer, write-opened, part-taken, refused, dropped, no-transfer, silent, Sizes, sizes, closed, Outcome, stored, restarted, declined, Pending, writing}
 use Rattle.order.specs.Gauge.{too-long, too-short, by-length, narrowed, counted, judged-by, judged}
-use Rattle.order.specs.Serve.{Reply, over, onwards, refuse, keeping, write-opening, take-more, conclude, take-part}
+use Rattle.order.specs.Serve.{toggle-code, Reply, Served, write-opening, take-more, conclude, take-part, write-part}
 use Rattle.table.specs.Row.{RO}
 use Rattle.table.specs.Rows.{row-count, at-row}
 use Rattle.table.specs.Find.{find-row}
@@ -29,13 +29,13 @@ use Rattle.sdo.specs.declared.Key.{Key}
 use Rattle.sdo.specs.Eight.{answer-of}
 use Rattle.transfer.specs.declared.Direction.the-variants.{Writes}
 use Rattle.transfer.specs.declared.Transfer.{Transfer}
-use Rattle.transfer.specs.Records.{zero-record, zero-record-at, key-at, lay}
-use Rattle.transfer.specs.Turns.{opened-record, grown}
-use Rattle.transfer.proofs.RecordLaws.{lay-begun, lay-writing, sent-length}
-use Rattle.state.specs.State.{record-bytes, fresh-state, settled}
-use Rattle.line.specs.Gauge.{plain, store-of}
+use Rattle.transfer.specs.Records.{zero-record, zero-record-at, key-at, counts, view, lay}
+use Rattle.transfer.specs.Turns.{is-writing, opened-record, grown}
+use Rattle.transfer.proofs.RecordLaws.{view-writing, no-writing, sent-length, lay-writing, lay-begun}
+use Rattle.state.specs.State.{record-at, record-bytes, fresh-state, settled}
+use Rattle.line.specs.Gauge.{bag552, plain, store-of}
 use Rattle.line.specs.Serving.{Kept, kept, put-down, replied, Told, told, told-by, spoken-over, Writable}
-use Rattle.line.proofs.Told.{over-replied, onwards-replied, over-told}
+use Rattle.line.proofs.Told.{over-replied, onwards-replied, kept-told, over-told}
 
 -- ---- a length judged
 
@@ -261,3 +261,42 @@ module _ (at : ℕ) (s a : List ℕ) where
           q
           ∙ ap (λ (j : ℕ). replied at s a (zero-record-at row) (write-opening plain k [] (sizes j j))) same
           ∙ ap (λ (y : Sizes). replied at s a (zero-record-at row) (write-opening plain k [] y)) (sym (let-through len len n closed (sizes n n) (within .0) (within .1)))
+
+-- ---- a part, by the record
+
+module _ (at : ℕ) (v b s a : List ℕ) (t : Transfer) (u : Bool) (bytes : List ℕ) (last : Bool) where
+  abbrev sent : Transfer → Told
+  sent r = told-by at s a (spoken-over r (write-part plain (store-of v b s) (view r) u bytes last))
+
+  module _ (held : t ≡ record-at s at) where
+    module _ (writes : (is-writing (t .direction) && counts t) ≡ true) where
+      abbrev sent-seen : Pending Key → Told
+      sent-seen y = told-by at s a (spoken-over t (write-part plain (store-of v b s) y u bytes last))
+
+      seen : {x : Told} → x ≡ sent-seen (writing (key-at (t .row)) (t .len) (t .len) (take (t .place) (t .held)) (t .toggle)) → x ≡ sent (record-at s at)
+      seen q = q ∙ ap sent-seen (sym (view-writing t writes)) ∙ ap sent held
+
+      pub sent-last : {x : Told} → Bool·beq (t .toggle) u ≡ true → last ≡ true
+          → x ≡ told-by at s a (spoken-over t (take-part plain (store-of v b s) (key-at (t .row)) (t .len) (t .len) (take (t .place) (t .held) ++ bytes) (not (t .toggle)) true (part-taken (t .toggle))))
+          → x ≡ sent (record-at s at)
+      unfolding write-part
+      sent-last r l q = seen (rw (r, l) q)
+
+      pub sent-more : {s′ a′ : List ℕ} → Bool·beq (t .toggle) u ≡ true → last ≡ false
+          → kept s′ a′ ≡ replied at s a t (take-more plain (key-at (t .row)) (t .len) (t .len) (take (t .place) (t .held) ++ bytes) (not (t .toggle)) (part-taken (t .toggle)))
+          → told v b s′ a′ ≡ sent (record-at s at)
+      unfolding write-part take-part
+      sent-more r l q = seen (rw (r, l) (kept-told at s a v b t _ q))
+
+      pub sent-wrong : {k : Key} {s′ a′ : List ℕ} → Bool·beq (t .toggle) u ≡ false → k ≡ key-at (t .row) → kept s′ a′ ≡ put-down at s a zero-record (answer-of (dropped k toggle-code))
+          → told v b s′ a′ ≡ sent (record-at s at)
+      unfolding write-part
+      sent-wrong r key q =
+          seen (rw r (over-told at s a v b t (dropped (key-at (t .row)) toggle-code) (ap (λ (k : Key). answer-of (dropped k toggle-code)) key) q))
+
+    pub sent-none : {s′ a′ eight : List ℕ} → (is-writing (t .direction) && counts t) ≡ false → eight ≡ answer-of no-transfer → kept s′ a′ ≡ put-down at s a zero-record eight
+        → told v b s′ a′ ≡ sent (record-at s at)
+    sent-none n e q =
+        over-told at s a v b t no-transfer e q
+        ∙ ap (λ (z : Served plain). told-by at s a (spoken-over t z)) (sym (no-writing t bag552 (store-of v b s) u bytes last n))
+        ∙ ap sent held
