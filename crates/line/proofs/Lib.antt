@@ -2,3 +2,4 @@ pub mod Told
 pub mod Doors
 pub mod Reading
 pub mod Writing
+pub mod Speaking

@@ -9,10 +9,11 @@ use lib.ListN.{length, take, drop, replicate, length-take}
 use lib.Seq.{take-take}
 use borrow.Author.Tests.{ltb-false, lt-ltb, le-ltb, ne-eqb}
 use Rattle.wire.specs.Splice.{splice}
+use Rattle.wire.specs.Little.{little}
 use Rattle.wire.proofs.SpliceLaws.{splice-none, splice-again, part-length}
-use Rattle.order.specs.Talk.{announced, own, Answer, write-opened, part-taken, refused, silent, sizes, closed, Outcome, stored, restarted, declined, writing}
-use Rattle.order.specs.Gauge.{too-long, too-short, by-length, narrowed, judged-by, judged}
-use Rattle.order.specs.Serve.{over, onwards, refuse, keeping, write-opening, take-more, conclude, take-part}
+use Rattle.order.specs.Talk.{announced, own, Answer, write-opened, part-taken, refused, dropped, no-transfer, silent, Sizes, sizes, closed, Outcome, stored, restarted, declined, Pending, writing}
+use Rattle.order.specs.Gauge.{too-long, too-short, by-length, narrowed, counted, judged-by, judged}
+use Rattle.order.specs.Serve.{toggle-code, Reply, Served, write-opening, take-more, conclude, take-part, write-part}
 use Rattle.table.specs.Row.{RO}
 use Rattle.table.specs.Rows.{row-count, at-row}
 use Rattle.table.specs.Find.{find-row}
@@ -28,13 +29,13 @@ use Rattle.sdo.specs.declared.Key.{Key}
 use Rattle.sdo.specs.Eight.{answer-of}
 use Rattle.transfer.specs.declared.Direction.the-variants.{Writes}
 use Rattle.transfer.specs.declared.Transfer.{Transfer}
-use Rattle.transfer.specs.Records.{zero-record, zero-record-at, key-at, lay}
-use Rattle.transfer.specs.Turns.{opened-record, grown}
-use Rattle.transfer.proofs.RecordLaws.{lay-begun, lay-writing, sent-length}
-use Rattle.state.specs.State.{record-bytes, fresh-state, settled}
-use Rattle.line.specs.Gauge.{plain, store-of}
+use Rattle.transfer.specs.Records.{zero-record, zero-record-at, key-at, counts, view, lay}
+use Rattle.transfer.specs.Turns.{is-writing, opened-record, grown}
+use Rattle.transfer.proofs.RecordLaws.{view-writing, no-writing, sent-length, lay-writing, lay-begun}
+use Rattle.state.specs.State.{record-at, record-bytes, fresh-state, settled}
+use Rattle.line.specs.Gauge.{bag552, plain, store-of}
 use Rattle.line.specs.Serving.{Kept, kept, put-down, replied, Told, told, told-by, spoken-over, Writable}
-use Rattle.line.proofs.Told.{over-replied, onwards-replied, over-told}
+use Rattle.line.proofs.Told.{over-replied, onwards-replied, kept-told, over-told}
 
 -- ---- a length judged
 
@@ -74,45 +75,228 @@ unfolding commit-through
 commit-open row w g bytes = commit-by-gate (at-row row .index) (at-row row .sub) g bytes ∙ ap (λ (y : Way). commit-through y g bytes) (open-gate row w)
 
 -- what it leaves, by how it ends: the answer that agrees stands in the room already
-module _ (at : ℕ) (v b s a : List ℕ) (row : ℕ) {v′ b′ s′ : List ℕ} {e : Ending} where
-  ended : Outcome Memory → Told
-  ended o = told-by at s a (spoken-over zero-record (conclude plain (store-of v b s) (key-at row) silent (with-trips (store-of v b s) o)))
+module _ (at : ℕ) (v b s a : List ℕ) (row : ℕ) where
+  abbrev ended : Outcome Store → Told
+  ended o = told-by at s a (spoken-over zero-record (conclude plain (store-of v b s) (key-at row) silent o))
 
-  accepted : (o : Outcome Memory) → left e v′ b′ ≡ left-by (memory-of v b) o → e ≡ Accepted → s′ ≡ splice s at (record-bytes zero-record) → told v′ b′ s′ a ≡ ended o
-  unfolding ended told-by settled conclude with-trips left-by lay answer-of
-  accepted (stored n) q i z = rw (ap (λ (l : Left). l .values) q, ap (λ (l : Left). l .block) q, z, splice-none a 0)
-  accepted (restarted n) q i z = let z : _≡_ {A = ℕ} 0 1 = cc (ap (λ (l : Left). l .ending) q) in absurd (omega arith)
-  accepted (declined c) q i z = let z : _≡_ {A = ℕ} 0 1 = cc (ap (λ (l : Left). l .ending) q) in absurd (omega arith)
+  by-row : Writable row → (bytes : List ℕ) → ended (with-trips (store-of v b s) (commit-row row bytes (memory-of v b))) ≡ ended (plain .commit (store-of v b s) (key-at row) bytes)
+  by-row w bytes = ap ended (sym (commit-open row w (store-of v b s) bytes))
 
-  restarts : (o : Outcome Memory) → left e v′ b′ ≡ left-by (memory-of v b) o → e ≡ Restarted → s′ ≡ fresh-state s → told v′ b′ s′ a ≡ ended o
-  unfolding ended told-by settled conclude with-trips left-by lay answer-of
-  restarts (stored n) q i z = let z : _≡_ {A = ℕ} 0 1 = cc (ap (λ (l : Left). l .ending) q) in absurd (omega arith)
-  restarts (restarted n) q i z = rw (ap (λ (l : Left). l .values) q, ap (λ (l : Left). l .block) q, z, splice-none a 0)
-  restarts (declined c) q i z = let z : _≡_ {A = ℕ} 0 1 = cc (ap (λ (l : Left). l .ending) q) in absurd (omega arith)
+  module _ {v′ b′ s′ : List ℕ} {e : Ending} where
+    accepted : (o : Outcome Memory) → left e v′ b′ ≡ left-by (memory-of v b) o → e ≡ Accepted → s′ ≡ splice s at (record-bytes zero-record) → told v′ b′ s′ a ≡ ended (with-trips (store-of v b s) o)
+    unfolding told-by settled conclude with-trips left-by lay answer-of
+    accepted (stored n) q i z = rw (ap (λ (l : Left). l .values) q, ap (λ (l : Left). l .block) q, z, splice-none a 0)
+    accepted (restarted n) q i z = let z : _≡_ {A = ℕ} 0 1 = cc (ap (λ (l : Left). l .ending) q) in absurd (omega arith)
+    accepted (declined c) q i z = let z : _≡_ {A = ℕ} 0 1 = cc (ap (λ (l : Left). l .ending) q) in absurd (omega arith)
 
-  refuses : (o : Outcome Memory) (code : ℕ) {a′ : List ℕ} → left e v′ b′ ≡ left-by (memory-of v b) o → e ≡ Refused code
-      → kept s′ a′ ≡ put-down at s a zero-record (answer-of (refused (key-at row) code)) → told v′ b′ s′ a′ ≡ ended o
-  unfolding ended told-by settled conclude with-trips left-by lay put-down
-  refuses (stored n) code q i z = let z : _≡_ {A = ℕ} 0 1 = cc (ap (λ (l : Left). l .ending) q) in absurd (omega arith)
-  refuses (restarted n) code q i z = let z : _≡_ {A = ℕ} 0 1 = cc (ap (λ (l : Left). l .ending) q) in absurd (omega arith)
-  refuses (declined c) code q i z =
-      let same : code ≡ c = cc (ap (λ (l : Left). l .ending) q) in
-      ap₂ (λ (x y : List ℕ). told x y s′ _) (ap (λ (l : Left). l .values) q) (ap (λ (l : Left). l .block) q)
-      ∙ ap (λ (k : Kept). told v b (k .state) (k .answer)) (z ∙ ap (λ (n : ℕ). put-down at s a zero-record (answer-of (refused (key-at row) n))) same)
+    restarts : (o : Outcome Memory) → left e v′ b′ ≡ left-by (memory-of v b) o → e ≡ Restarted → s′ ≡ fresh-state s → told v′ b′ s′ a ≡ ended (with-trips (store-of v b s) o)
+    unfolding told-by settled conclude with-trips left-by lay answer-of
+    restarts (stored n) q i z = let z : _≡_ {A = ℕ} 0 1 = cc (ap (λ (l : Left). l .ending) q) in absurd (omega arith)
+    restarts (restarted n) q i z = rw (ap (λ (l : Left). l .values) q, ap (λ (l : Left). l .block) q, z, splice-none a 0)
+    restarts (declined c) q i z = let z : _≡_ {A = ℕ} 0 1 = cc (ap (λ (l : Left). l .ending) q) in absurd (omega arith)
 
-  module _ (w : Writable row) (bytes : List ℕ) (q : left e v′ b′ ≡ left-by (memory-of v b) (commit-row row bytes (memory-of v b))) where
-    concluded : Told
-    concluded = told-by at s a (spoken-over zero-record (conclude plain (store-of v b s) (key-at row) silent (plain .commit (store-of v b s) (key-at row) bytes)))
+    refuses : (o : Outcome Memory) (code : ℕ) {a′ : List ℕ} → left e v′ b′ ≡ left-by (memory-of v b) o → e ≡ Refused code
+        → kept s′ a′ ≡ put-down at s a zero-record (answer-of (refused (key-at row) code)) → told v′ b′ s′ a′ ≡ ended (with-trips (store-of v b s) o)
+    unfolding told-by settled conclude with-trips left-by lay put-down
+    refuses (stored n) code q i z = let z : _≡_ {A = ℕ} 0 1 = cc (ap (λ (l : Left). l .ending) q) in absurd (omega arith)
+    refuses (restarted n) code q i z = let z : _≡_ {A = ℕ} 0 1 = cc (ap (λ (l : Left). l .ending) q) in absurd (omega arith)
+    refuses (declined c) code {a′} q i z =
+        let same : code ≡ c = cc (ap (λ (l : Left). l .ending) q) in
+        ap₂ (λ (x y : List ℕ). told x y s′ a′) (ap (λ (l : Left). l .values) q) (ap (λ (l : Left). l .block) q)
+        ∙ ap (λ (k : Kept). told v b (k .state) (k .answer)) (z ∙ ap (λ (n : ℕ). put-down at s a zero-record (answer-of (refused (key-at row) n))) same)
 
-    by-row : ended (commit-row row bytes (memory-of v b)) ≡ concluded
-    unfolding ended concluded
-    by-row = ap (λ (o : Outcome Store). told-by at s a (spoken-over zero-record (conclude plain (store-of v b s) (key-at row) silent o))) (sym (commit-open row w (store-of v b s) bytes))
+    module _ (w : Writable row) (bytes : List ℕ) (q : left e v′ b′ ≡ left-by (memory-of v b) (commit-row row bytes (memory-of v b))) where
+      pub accepted-told : e ≡ Accepted → s′ ≡ splice s at (record-bytes zero-record) → told v′ b′ s′ a ≡ ended (plain .commit (store-of v b s) (key-at row) bytes)
+      accepted-told i z = accepted (commit-row row bytes (memory-of v b)) q i z ∙ by-row w bytes
 
-    pub accepted-told : e ≡ Accepted → s′ ≡ splice s at (record-bytes zero-record) → told v′ b′ s′ a ≡ concluded
-    accepted-told i z = accepted (commit-row row bytes (memory-of v b)) q i z ∙ by-row
+      pub restarted-told : e ≡ Restarted → s′ ≡ fresh-state s → told v′ b′ s′ a ≡ ended (plain .commit (store-of v b s) (key-at row) bytes)
+      restarted-told i z = restarts (commit-row row bytes (memory-of v b)) q i z ∙ by-row w bytes
 
-    pub restarted-told : e ≡ Restarted → s′ ≡ fresh-state s → told v′ b′ s′ a ≡ concluded
-    restarted-told i z = restarts (commit-row row bytes (memory-of v b)) q i z ∙ by-row
+      pub refused-told : (code : ℕ) {a′ : List ℕ} → e ≡ Refused code → kept s′ a′ ≡ put-down at s a zero-record (answer-of (refused (key-at row) code))
+          → told v′ b′ s′ a′ ≡ ended (plain .commit (store-of v b s) (key-at row) bytes)
+      refused-told code i z = refuses (commit-row row bytes (memory-of v b)) code q i z ∙ by-row w bytes
 
-    pub refused-told : (code : ℕ) {a′ : List ℕ} → e ≡ Refused code → kept s′ a′ ≡ put-down at s a zero-record (answer-of (refused (key-at row) code)) → told v′ b′ s′ a′ ≡ concluded
-    refused-told code i z = refuses (commit-row row bytes (memory-of v b)) code q i z ∙ by-row
+-- with the answer in the room
+agreed-told : (at : ℕ) (s before : List ℕ) (c : Transfer) (g : Store) (k : Key) (agreed : Answer Key) {a : List ℕ} → a ≡ splice before 0 (answer-of agreed) → length (answer-of agreed) ≡ 8
+    → (o : Outcome Store) → told-by at s a (spoken-over zero-record (conclude plain g k silent o)) ≡ told-by at s before (spoken-over c (conclude plain g k agreed o))
+unfolding told-by conclude lay answer-of little
+agreed-told at s before c g k agreed {a} e n (stored h) = ap (told (h .memory .values) (h .memory .block) (settled at zero-record false s)) (splice-none a 0 ∙ e)
+agreed-told at s before c g k agreed {a} e n (restarted h) = ap (told (h .memory .values) (h .memory .block) (settled at zero-record true s)) (splice-none a 0 ∙ e)
+agreed-told at s before c g k agreed {a} e n (declined code) =
+    ap (told (g .memory .values) (g .memory .block) (settled at zero-record false s))
+    (ap (λ (l : List ℕ). splice l 0 (answer-of (refused k code))) e ∙ splice-again before 0 (answer-of agreed) (answer-of (refused k code)) n (omega arith))
+
+-- ---- the room has the answer, and the write is concluded
+
+module _ (at : ℕ) (v b s a : List ℕ) where
+  -- a value with its opening
+  pub value-told : (row : ℕ) {k : Key} (bytes : List ℕ) {x : Told} {a′ eight : List ℕ} → k ≡ key-at row → eight ≡ answer-of (write-opened k) → a′ ≡ splice a 0 eight
+      → x ≡ told-by at s a′ (spoken-over zero-record (conclude plain (store-of v b s) (key-at row) silent (plain .commit (store-of v b s) (key-at row) bytes)))
+      → x ≡ told-by at s a (spoken-over zero-record (conclude plain (store-of v b s) k (write-opened k) (plain .commit (store-of v b s) k bytes)))
+  unfolding answer-of
+  value-told row {k} bytes {x} {a′} key e r q =
+      q
+      ∙ ap (λ (j : Key). told-by at s a′ (spoken-over zero-record (conclude plain (store-of v b s) j silent (plain .commit (store-of v b s) j bytes)))) (sym key)
+      ∙ agreed-told at s a zero-record (store-of v b s) k (write-opened k) (r ∙ ap (splice a 0) e) refl (plain .commit (store-of v b s) k bytes)
+
+  -- ---- a value of a length that is said, or of the entry's own
+
+  module _ (k : Key) (len : ℕ) (bytes : List ℕ) where
+    abbrev outcome-told : Outcome Store → Told
+    outcome-told o = told-by at s a (spoken-over zero-record (conclude plain (store-of v b s) k (write-opened k) o))
+
+    declined-told : (code : ℕ) {s′ a′ : List ℕ} → kept s′ a′ ≡ put-down at s a zero-record (answer-of (refused k code)) → told v b s′ a′ ≡ outcome-told (declined code)
+    unfolding conclude
+    declined-told code q = over-told at s a v b zero-record (refused k code) refl q
+
+    module _ (n : ℕ) {fault : ℕ} (f : fault ≡ by-length len len n (λ c. c) 0) where
+      abbrev sized : Outcome Store
+      sized = judged-by plain (store-of v b s) k (announced n) bytes (narrowed len len (announced n))
+
+      pub sized-refused : {s′ a′ : List ℕ} → (fault ≡ 0 → ⊥) → kept s′ a′ ≡ put-down at s a zero-record (answer-of (refused k fault)) → told v b s′ a′ ≡ outcome-told sized
+      unfolding narrowed judged-by
+      sized-refused d q = declined-told fault q ∙ ap (λ (z : Sizes). outcome-told (judged-by plain (store-of v b s) k (announced n) bytes z)) (sym (by-fault len len n f closed (sizes n n) d))
+
+      pub sized-right : {x : Told} → fault ≡ 0 → length bytes ≡ n → x ≡ outcome-told (plain .commit (store-of v b s) k bytes) → x ≡ outcome-told sized
+      unfolding narrowed judged-by judged counted
+      sized-right z l q =
+          let within = no-fault len len n f z in
+          q
+          ∙ ap outcome-told (sym (let-through n n (length bytes) declined (plain .commit (store-of v b s) k bytes) (omega arith) (omega arith)))
+          ∙ ap (λ (y : Sizes). outcome-told (judged-by plain (store-of v b s) k (announced n) bytes y)) (sym (let-through len len n closed (sizes n n) (within .0) (within .1)))
+
+    abbrev own-length : Outcome Store
+    own-length = judged-by plain (store-of v b s) k own bytes (narrowed len len own)
+
+    pub own-refused : {count : ℕ} {s′ a′ : List ℕ} → length bytes ≡ count → count < len → kept s′ a′ ≡ put-down at s a zero-record (answer-of (refused k too-short)) → told v b s′ a′ ≡ outcome-told own-length
+    unfolding narrowed judged-by judged counted by-length
+    own-refused {count} l h q =
+        let m : length (take len bytes) ≡ count = rw length-take (omega arith) in
+        declined-told too-short q ∙ rw (m, le-ltb len count (omega arith), lt-ltb count len h)
+
+    pub own-right : {x : Told} (value : List ℕ) → value ≡ take len bytes → length value ≡ len → x ≡ outcome-told (plain .commit (store-of v b s) k value) → x ≡ outcome-told own-length
+    unfolding narrowed judged-by judged counted
+    own-right value e l q =
+        q
+        ∙ ap outcome-told (sym (let-through len len (length value) declined (plain .commit (store-of v b s) k value) (omega arith) (omega arith)))
+        ∙ ap (λ (y : List ℕ). outcome-told (judged plain (store-of v b s) k len len y)) e
+
+  -- ---- the last part
+
+  module _ (t : Transfer) (bytes : List ℕ) (inside : t .place ≤ length (t .held)) {count fault : ℕ} (long : length bytes ≡ count)
+      (f : fault ≡ by-length (t .len) (t .len) (t .place + count) (λ c. c) 0) where
+    abbrev all : List ℕ
+    all = take (t .place) (t .held) ++ bytes
+
+    abbrev last-told : Outcome Store → Told
+    last-told o = told-by at s a (spoken-over t (conclude plain (store-of v b s) (key-at (t .row)) (part-taken (t .toggle)) o))
+
+    abbrev last-part : Told
+    last-part = told-by at s a (spoken-over t (take-part plain (store-of v b s) (key-at (t .row)) (t .len) (t .len) all (not (t .toggle)) true (part-taken (t .toggle))))
+
+    all-judged : by-length (t .len) (t .len) (t .place + count) declined (plain .commit (store-of v b s) (key-at (t .row)) all) ≡ judged plain (store-of v b s) (key-at (t .row)) (t .len) (t .len) all
+    unfolding judged
+    all-judged = ap (λ (n : ℕ). by-length (t .len) (t .len) n declined (plain .commit (store-of v b s) (key-at (t .row)) all)) (sym (sent-length t bytes inside ∙ ap (λ (n : ℕ). t .place + n) long))
+
+    pub last-refused : {k : Key} {s′ a′ : List ℕ} → k ≡ key-at (t .row) → (fault ≡ 0 → ⊥) → kept s′ a′ ≡ put-down at s a zero-record (answer-of (refused k fault)) → told v b s′ a′ ≡ last-part
+    unfolding take-part conclude
+    last-refused key d q =
+        over-told at s a v b t (refused (key-at (t .row)) fault) (ap (λ (k : Key). answer-of (refused k fault)) key) q
+        ∙ ap last-told (sym (by-fault (t .len) (t .len) (t .place + count) f declined (plain .commit (store-of v b s) (key-at (t .row)) all) d) ∙ all-judged)
+
+    pub last-right : {x : Told} {a′ eight held : List ℕ} → fault ≡ 0 → eight ≡ answer-of (part-taken (t .toggle)) → a′ ≡ splice a 0 eight → held ≡ all
+        → x ≡ told-by at s a′ (spoken-over zero-record (conclude plain (store-of v b s) (key-at (t .row)) silent (plain .commit (store-of v b s) (key-at (t .row)) held)))
+        → x ≡ last-part
+    unfolding take-part answer-of
+    last-right z e r h q =
+        let within = no-fault (t .len) (t .len) (t .place + count) f z in
+        rw h at q
+        ∙ agreed-told at s a t (store-of v b s) (key-at (t .row)) (part-taken (t .toggle)) (r ∙ ap (splice a 0) e) refl (plain .commit (store-of v b s) (key-at (t .row)) all)
+        ∙ ap last-told (sym (let-through (t .len) (t .len) (t .place + count) declined (plain .commit (store-of v b s) (key-at (t .row)) all) (within .0) (within .1)) ∙ all-judged)
+
+-- ---- replies: a part that is not the last, and openings of writes in parts
+
+module _ (at : ℕ) (s a : List ℕ) where
+  module _ (t : Transfer) (bytes : List ℕ) (inside : t .place ≤ length (t .held)) {count : ℕ} (long : length bytes ≡ count) where
+    abbrev more : Reply plain
+    more = take-more plain (key-at (t .row)) (t .len) (t .len) (take (t .place) (t .held) ++ bytes) (not (t .toggle)) (part-taken (t .toggle))
+
+    sent-count : length (take (t .place) (t .held) ++ bytes) ≡ t .place + count
+    sent-count = sent-length t bytes inside ∙ ap (λ (n : ℕ). t .place + n) long
+
+    pub more-refused : {k : Key} {x : Kept} → k ≡ key-at (t .row) → t .len < t .place + count → x ≡ put-down at s a zero-record (answer-of (refused k too-long)) → x ≡ replied at s a t more
+    unfolding take-more
+    more-refused {k} {x} key h q =
+        rw (sent-count, lt-ltb (t .len) (t .place + count) h)
+        (over-replied at s a t (refused (key-at (t .row)) too-long) (ap (λ (k : Key). answer-of (refused k too-long)) key) q)
+
+    pub more-taken : {s′ a′ eight : List ℕ} → t .place + count ≤ t .len → s′ ≡ splice s at (record-bytes (grown t bytes)) → a′ ≡ splice a 0 eight → eight ≡ answer-of (part-taken (t .toggle))
+        → kept s′ a′ ≡ replied at s a t more
+    unfolding take-more put-down
+    more-taken h p r e =
+        rw (le-ltb (t .len) (length (take (t .place) (t .held) ++ bytes)) (omega (arith, sent-count)))
+        (onwards-replied at s a t (grown t bytes) _ (part-taken (t .toggle)) e (sym (lay-writing t bytes inside (t .len))) (ap₂ kept p r))
+
+  module _ (k : Key) (row len : ℕ) where
+    pub parts-opened : {next : Transfer} {x : Kept} {eight : List ℕ} → next ≡ opened-record Writes row (replicate 64 0) len → eight ≡ answer-of (write-opened k) → x ≡ put-down at s a next eight
+        → x ≡ replied at s a (zero-record-at row) (write-opening plain k [] (sizes len len))
+    unfolding write-opening take-more
+    parts-opened n e q =
+        rw (le-ltb len 0 (omega arith)) (onwards-replied at s a (zero-record-at row) _ (writing k len len [] false) (write-opened k) e (n ∙ sym (lay-begun row k len len)) q)
+
+    module _ (n : ℕ) {fault : ℕ} (f : fault ≡ by-length len len n (λ c. c) 0) where
+      pub announced-refused : {x : Kept} → (fault ≡ 0 → ⊥) → x ≡ put-down at s a zero-record (answer-of (refused k fault))
+          → x ≡ replied at s a (zero-record-at row) (write-opening plain k [] (narrowed len len (announced n)))
+      unfolding write-opening narrowed
+      announced-refused d q =
+          over-replied at s a (zero-record-at row) (refused k fault) refl q
+          ∙ ap (λ (z : Sizes). replied at s a (zero-record-at row) (write-opening plain k [] z)) (sym (by-fault len len n f closed (sizes n n) d))
+
+      pub announced-right : {x : Kept} → fault ≡ 0 → x ≡ replied at s a (zero-record-at row) (write-opening plain k [] (sizes len len))
+          → x ≡ replied at s a (zero-record-at row) (write-opening plain k [] (narrowed len len (announced n)))
+      unfolding narrowed
+      announced-right z q =
+          let within = no-fault len len n f z in
+          let same : len ≡ n = omega (arith, within .0, within .1) in
+          q
+          ∙ ap (λ (j : ℕ). replied at s a (zero-record-at row) (write-opening plain k [] (sizes j j))) same
+          ∙ ap (λ (y : Sizes). replied at s a (zero-record-at row) (write-opening plain k [] y)) (sym (let-through len len n closed (sizes n n) (within .0) (within .1)))
+
+-- ---- a part, by the record
+
+module _ (at : ℕ) (v b s a : List ℕ) (t : Transfer) (u : Bool) (bytes : List ℕ) (last : Bool) where
+  abbrev sent : Transfer → Told
+  sent r = told-by at s a (spoken-over r (write-part plain (store-of v b s) (view r) u bytes last))
+
+  module _ (held : t ≡ record-at s at) where
+    module _ (writes : (is-writing (t .direction) && counts t) ≡ true) where
+      abbrev sent-seen : Pending Key → Told
+      sent-seen y = told-by at s a (spoken-over t (write-part plain (store-of v b s) y u bytes last))
+
+      seen : {x : Told} → x ≡ sent-seen (writing (key-at (t .row)) (t .len) (t .len) (take (t .place) (t .held)) (t .toggle)) → x ≡ sent (record-at s at)
+      seen q = q ∙ ap sent-seen (sym (view-writing t writes)) ∙ ap sent held
+
+      pub sent-last : {x : Told} → Bool·beq (t .toggle) u ≡ true → last ≡ true
+          → x ≡ told-by at s a (spoken-over t (take-part plain (store-of v b s) (key-at (t .row)) (t .len) (t .len) (take (t .place) (t .held) ++ bytes) (not (t .toggle)) true (part-taken (t .toggle))))
+          → x ≡ sent (record-at s at)
+      unfolding write-part
+      sent-last r l q = seen (rw (r, l) q)
+
+      pub sent-more : {s′ a′ : List ℕ} → Bool·beq (t .toggle) u ≡ true → last ≡ false
+          → kept s′ a′ ≡ replied at s a t (take-more plain (key-at (t .row)) (t .len) (t .len) (take (t .place) (t .held) ++ bytes) (not (t .toggle)) (part-taken (t .toggle)))
+          → told v b s′ a′ ≡ sent (record-at s at)
+      unfolding write-part take-part
+      sent-more r l q = seen (rw (r, l) (kept-told at s a v b t _ q))
+
+      pub sent-wrong : {k : Key} {s′ a′ : List ℕ} → Bool·beq (t .toggle) u ≡ false → k ≡ key-at (t .row) → kept s′ a′ ≡ put-down at s a zero-record (answer-of (dropped k toggle-code))
+          → told v b s′ a′ ≡ sent (record-at s at)
+      unfolding write-part
+      sent-wrong r key q =
+          seen (rw r (over-told at s a v b t (dropped (key-at (t .row)) toggle-code) (ap (λ (k : Key). answer-of (dropped k toggle-code)) key) q))
+
+    pub sent-none : {s′ a′ eight : List ℕ} → (is-writing (t .direction) && counts t) ≡ false → eight ≡ answer-of no-transfer → kept s′ a′ ≡ put-down at s a zero-record eight
+        → told v b s′ a′ ≡ sent (record-at s at)
+    sent-none n e q =
+        over-told at s a v b t no-transfer e q
+        ∙ ap (λ (z : Served plain). told-by at s a (spoken-over t z)) (sym (no-writing t bag552 (store-of v b s) u bytes last n))
+        ∙ ap sent held

@@ -8,23 +8,21 @@ use sdo::answer;
 use table::code;
 use transfer::Direction;
 use transfer::Transfer;
-ghost use mathlib.Core.Bool.{Bool, true, not};
-ghost use mathlib.Core.List.{List, [], _++_};
+ghost use mathlib.Core.Bool.{true, not};
+ghost use mathlib.Core.List.{[], _++_};
 ghost use mathlib.Core.Path.{_≡_};
-ghost use Prim.Native.Nat.{ℕ, _+_, _≤_, _<_};
+ghost use Prim.Native.Nat.{_+_, _≤_};
 ghost use lib.ListN.{length, take, drop};
-ghost use Rattle.wire.specs.Splice.{splice};
-ghost use Rattle.order.specs.Talk.{announced, own, Answer, part-taken, write-opened, sizes};
+ghost use Rattle.order.specs.Talk.{announced, own, part-taken, write-opened, silent, sizes};
 ghost use Rattle.order.specs.Gauge.{by-length, narrowed, judged-by};
 ghost use Rattle.order.specs.Serve.{write-opening, take-more, conclude, take-part, write-part};
 ghost use Rattle.table.specs.Rows.{at-row};
 ghost use Rattle.table.specs.Find.{find-row};
 ghost use Rattle.table.specs.declared.Found.the-variants.{At};
 ghost use Rattle.find.specs.Columns.{shape as row-shape};
-ghost use Rattle.sdo.specs.declared.Key.{Key as Entry};
 ghost use Rattle.sdo.specs.declared.Heard.the-variants.{Asks};
 ghost use Rattle.sdo.specs.declared.Message.the-variants.{OpenWrite};
-ghost use Rattle.sdo.specs.Eight.{answer-of, heard-of};
+ghost use Rattle.sdo.specs.Eight.{heard-of};
 ghost use Rattle.transfer.specs.Records.{zero-record, zero-record-at, key-at, view};
 ghost use Rattle.state.specs.State.{record-at};
 ghost use Rattle.line.specs.Gauge.{plain, store-of};
@@ -43,8 +41,8 @@ fn length_fault(low: usize, high: usize, n: usize) -> u32
     0
 }
 
-// A whole write ends the transfer; after a device reset no line has one. The room has the answer that says yes; where the write is
-// refused the abort takes its place.
+// A whole write ends the transfer; after a device reset no line has one. The room has the answer that says yes already, so nothing more is
+// told; where the write is refused the abort takes its place.
 fn conclude(
     values: &mut [u8],
     block: &mut [u8],
@@ -55,7 +53,7 @@ fn conclude(
     room: &mut [u8],
 )
     requires { ⌜ Ready at (now values) (now block) (now state) (now room) × Writable row × (length (now bytes) ≡ at-row row .len) ⌝ }
-    ensures { λ _. ⌜ ((agreed : Answer Entry) (before : List ℕ) → length (answer-of agreed) ≡ 8 → now (room .entry) ≡ splice before 0 (answer-of agreed) → told (now (values .exit)) (now (block .exit)) (now (state .exit)) (now (room .exit)) ≡ told-by at (now (state .entry)) before (spoken-over zero-record (conclude plain (store-of (now (values .entry)) (now (block .entry)) (now (state .entry))) (key-at row) agreed (plain .commit (store-of (now (values .entry)) (now (block .entry)) (now (state .entry))) (key-at row) (now (bytes .entry)))))) ⌝ }
+    ensures { λ _. ⌜ told (now (values .exit)) (now (block .exit)) (now (state .exit)) (now (room .exit)) ≡ told-by at (now (state .entry)) (now (room .entry)) (spoken-over zero-record (conclude plain (store-of (now (values .entry)) (now (block .entry)) (now (state .entry))) (key-at row) silent (plain .commit (store-of (now (values .entry)) (now (block .entry)) (now (state .entry))) (key-at row) (now (bytes .entry))))) ⌝ }
 {
     let kind = find::field::kind_of(row);
     let ending = gauge::commit::commit(values, block, row, kind, bytes);
