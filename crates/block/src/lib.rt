@@ -1,6 +1,7 @@
 // The saved block of the NV entries: storing and loading it.
 use entry::limits;
 use find::columns;
+use table::kind;
 use wire::wide;
 ghost use mathlib.Core.Path.{_≡_};
 ghost use mathlib.Core.Bool.{true, cond};
@@ -30,11 +31,11 @@ fn put_number(values: &mut [u8], place: usize, kind: u8, v: u32)
     requires { ⌜ (place + number-len kind ≤ length (now values)) × (v < 2 ^ (8 * number-len kind)) ⌝ }
     ensures { λ _. ⌜ now (values .exit) ≡ splice (now (values .entry)) place (little (number-len kind) v) ⌝ }
 {
-    if 2 < kind {
+    if kind::UINT < kind {
         wire::put_word(values, place, v);
         return;
     }
-    if kind == 2 {
+    if kind == kind::UINT {
         wire::put_number(values, place, 2, wide::word_to_u64(v));
         return;
     }
@@ -64,7 +65,7 @@ fn take_entry(
     requires { ⌜ Sized kind (entry-len kind width) place × (width ≡ width-by kind (entry-len kind width)) × (length (now values) ≡ 1024) × (length (now block) ≡ 512) × (at + width ≤ 4096) × (kind ≤ REAL → v ≡ field (bits (now block)) at width) ⌝ }
     ensures { λ _. ⌜ now (values .exit) ≡ splice (now (values .entry)) place (entry-bytes kind (entry-len kind width) (drop at (bits (now (block .entry))))) ⌝ }
 {
-    if 5 < kind {
+    if kind::REAL < kind {
         bits::get_bytes(values, place, width / 8, block, at);
     } else {
         put_number(values, place, kind, v);
@@ -84,7 +85,7 @@ fn save_entry(
     requires { ⌜ Sized kind (entry-len kind width) place × (width ≡ width-by kind (entry-len kind width)) × (length (now values) ≡ 1024) × (length (now block) ≡ fresh-bytes) × (at + width ≤ nv-end) × (v ≡ number (now values) place (number-len kind)) × (kind ≤ REAL → v < 2 ^ width) × (all-zero (drop at (bits (now block))) ≡ true) ⌝ }
     ensures { λ _. ⌜ bits (now (block .exit)) ≡ splice (bits (now (block .entry))) at (entry-bits kind (entry-len kind width) (take (entry-len kind width) (drop place (now (values .entry))))) ⌝ }
 {
-    if 5 < kind {
+    if kind::REAL < kind {
         bits::put_bytes(block, at, values, place, width / 8);
     } else {
         bits::add_field(block, at, width, v);

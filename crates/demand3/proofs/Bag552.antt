@@ -10,6 +10,9 @@ use lib.ListN.{length, length-take}
 use borrow.Author.Tests.{eqb-false, eq-eqb, ne-eqb, le-leb}
 use Rattle.order.specs.Talk.{Read, value, denied, Sizes, sizes, closed, Outcome, stored, restarted, declined}
 use Rattle.order.specs.Gauge.{counted}
+use Rattle.order.specs.Bytes.{Call}
+use Rattle.order.specs.Keep.{Demand3Records, Keeps}
+use Rattle.order.proofs.Kept.{demand3-records}
 use Rattle.table.specs.Row.{Row, RO, WO, CARD, COMMAND}
 use Rattle.table.specs.Rows.{row-count, at-row}
 use Rattle.table.specs.Rule.{held}
@@ -21,7 +24,7 @@ use Rattle.entry.specs.Limits.{verdict-code}
 use Rattle.entry.specs.Entry.{entry-of}
 use Rattle.entry.proofs.RowLaws.{held-most}
 use Rattle.card.proofs.Made.{length-card}
-use Rattle.gate.specs.Codes.{write-only, read-only}
+use Rattle.table.specs.Codes.{write-only, read-only}
 use Rattle.gate.specs.Gates.{Way, to-row, no-way, gate, read-gate, write-gate}
 use Rattle.command.specs.Words.{command-at, read-word, word-of, same-bytes}
 use Rattle.command.specs.declared.word.Command.{Command}
@@ -33,20 +36,21 @@ use Rattle.gauge.specs.Whole.{by-type, value-of, effect, write-by, commit-row, 
 use Rattle.gauge.proofs.ByGate.{read-through, sizes-of, commit-through, read-by-gate, sizes-by-gate, commit-by-gate}
 use Rattle.gauge.proofs.ValueLaws.{value-length}
 use Rattle.sdo.specs.declared.Key.{Key}
-use Rattle.sdo.specs.declared.Direction.the-variants.{Reads, Writes}
+use Rattle.transfer.specs.declared.Direction.the-variants.{Reads, Writes}
 use Rattle.sdo.specs.Eight.{Code}
-use Rattle.sdo.specs.Lines.{Sound, BoardCall}
-use Rattle.sdo.specs.Records.{allows, RowOf, GoodAfter, Rows, Demand3Records}
-use Rattle.sdo.proofs.Demand.{Coded, CodedSizes}
-use Rattle.sdo.proofs.DemandRecords.{demand3-records}
-use Rattle.board.specs.Gauge.{sampled, bag552}
-use Rattle.demand3.specs.Firmware.{powered-store}
+use Rattle.sdo.specs.Lines.{Sound}
+use Rattle.sdo.proofs.Carries.{Coded, CodedSizes, clear}
+use Rattle.transfer.specs.Records.{allows, RowOf, transfers, GoodAfter, Rows}
+use Rattle.transfer.proofs.RecordLaws.{Whole}
+use Rattle.transfer.proofs.Kept.{keeps}
+use Rattle.line.specs.Gauge.{sampled, bag552}
+use Rattle.demand3.specs.Firmware.{setup, powered-store}
 use Rattle.demand3.proofs.Lengths.{values-long, fresh-long, Sized, SizedAfter, commit-sized}
 
 -- ---- codes and lengths
 
 code : (c : ℕ) → c < 0x1_0000_0000 → 0x05040001 < c → Code c
-code c h k = record { fits = h; not-transfer = ne c 0x05040001 (omega arith); not-toggle = ne c 0x05030000 (omega arith) }
+code c h k = record { fits = h; not-transfer = ne c 0x05040001 (omega arith); ends = ne c 0x05030000 (omega arith) }
   where
     ne : (a b : ℕ) → b < a → eqb a b ≡ false
     ne a b q = ne-eqb a b (λ e. omega arith)
@@ -250,11 +254,10 @@ commit-good g k bytes ok w = rw (commit-by-gate (k .index) (k .sub) g bytes, w .
         trips-good g (commit-row (w .row) bytes (g .memory))
         (commit-sized (w .row) (find-at (k .index) (k .sub) (w .row) (w .found) .there) bytes (w .length-is) (g .memory) ok)
 
-pub real-rows : Rows bag552
+pub real-rows : Rows bag552 GoodStore
 unfolding ReadRow WriteRow sampled
 real-rows =
     record {
-      Good = GoodStore;
       read-row = λ g k bytes ok e. subst (ReadRow k) (sym (read-by-gate (k .index) (k .sub) g) ∙ e) (read-row k (find-row (k .index) (k .sub)) (g .memory .values) (ok .values-are) refl);
       write-row = λ k low high e. subst (WriteRow k) (sym (sizes-by-gate (k .index) (k .sub)) ∙ e) (write-row k (find-row (k .index) (k .sub)) refl);
       commit-good = commit-good;
@@ -265,17 +268,13 @@ real-rows =
           };
     }
 
-pub good : (g : Store) → GoodStore g → real-rows .Good g
-unfolding real-rows
-good g ok = ok
-
-pub good-is : (g : Store) → real-rows .Good g → GoodStore g
-unfolding real-rows
-good-is g ok = ok
-
 pub powered-good : (block : List ℕ) → length block ≡ 512 → GoodStore (powered-store block)
 powered-good block n = record { values-are = fresh-long _; block-is = n }
 
+-- what the two lines keep in their records
+pub kept-records : Keeps setup transfers GoodStore Whole
+kept-records = keeps bag552 real-rows
+
 -- THEOREM: demand 3 for the board with its records by value, for every list of messages and samples from power-up
-pub demand3-board : (block : List ℕ) → length block ≡ 512 → (cs : List (BoardCall bag552)) → Demand3Records bag552 (powered-store block) cs
-demand3-board block n cs = demand3-records bag552 real-rows sound (powered-store block) (good (powered-store block) (powered-good block n)) cs
+pub demand3-board : (block : List ℕ) → length block ≡ 512 → (cs : List (Call setup)) → Demand3Records setup transfers (powered-store block) cs
+demand3-board block n cs = demand3-records setup transfers kept-records (clear bag552 sound) (powered-store block) (powered-good block n) cs

@@ -6,19 +6,18 @@ use lib.ListN.{getD, replicate}
 use Rattle.order.specs.Talk.{Result, gave, yes!, code, taken}
 use Rattle.order.specs.Gauge.{results}
 use Rattle.order.specs.Promise.{ops-of, got-of}
-use Rattle.sdo.specs.Lines.{gauge}
-use Rattle.board.specs.Gauge.{bag552}
+use Rattle.line.specs.Gauge.{plain}
 use Rattle.demand3.specs.Firmware.{Exported, Back, observed, powered-store}
-use Rattle.demand3.specs.Open.{opened, observer-opened}
+use Rattle.demand3.specs.Open.{all-opened, observer-opened}
 use Rattle.demand3.specs.Conversation.{Case, asks, expects, label-read}
 use Rattle.demand3.specs.Examples.{label-changed}
 
 -- what a board answered, as the observer is given it, and the first line of demand 3 for it
-abbrev told : List Case → List (Exported × Back)
-told cs = map (λ (c : Case). (asks c, expects c)) cs
+abbrev answers-of : List Case → List (Exported × Back)
+answers-of cs = map (λ (c : Case). (asks c, expects c)) cs
 
 abbrev Plain : List Case → Type 0
-Plain cs = results (gauge bag552) (powered-store (replicate 512 0)) (ops-of (gauge bag552) (observed (told cs))) ≡ got-of (gauge bag552) (observed (told cs))
+Plain cs = results plain (powered-store (replicate 512 0)) (ops-of plain (observed (answers-of cs))) ≡ got-of plain (observed (answers-of cs))
 
 -- the first byte of the value that the n-th operation got
 first-byte : Result → ℕ
@@ -32,10 +31,10 @@ byte-of n rs = first-byte (getD rs n taken)
 
 -- ONE THAT STORES NOTHING: in case J its next read shows anything but the 41s that were written
 pub forgetful-not-plain : (x : ℕ) → (0x41 ≡ x → ⊥) → Plain (label-changed ++ label-read 0 x) → ⊥
-unfolding label-changed first-byte opened observer-opened
+unfolding label-changed first-byte all-opened observer-opened
 forgetful-not-plain x other h = other (ap (byte-of 2) h)
 
 -- ONE THAT SERVES THE OPENING AND FAKES THE LATER PARTS: the label is zeros, and it sends another byte
 pub faker-not-plain : (x : ℕ) → (0 ≡ x → ⊥) → Plain (label-read 0 x) → ⊥
-unfolding first-byte opened observer-opened
+unfolding first-byte all-opened observer-opened
 faker-not-plain x other h = other (ap (byte-of 0) h)

@@ -3,6 +3,7 @@ pub mod Unique
 pub mod Refused
 pub mod CoatingShop
 pub mod Lengths
+pub mod Trips
 pub mod Bag552
 pub mod StateBytes
 pub mod Calls

@@ -9,16 +9,17 @@ use Rattle.order.specs.Talk.{announced, gave, yes! }
 use Rattle.order.specs.Gauge.{read, write}
 use Rattle.order.specs.Observe.{Done}
 use Rattle.sdo.specs.declared.Key.{Key}
-use Rattle.sdo.specs.Lines.{gauge, tool}
-use Rattle.sdo.specs.Records.{record-call}
-use Rattle.board.specs.Gauge.{bag552}
+use Rattle.order.specs.Keep.{record-call}
+use Rattle.sdo.specs.Lines.{tool}
+use Rattle.transfer.specs.Records.{transfers}
+use Rattle.line.specs.Gauge.{plain}
 use Rattle.demand3.specs.Firmware.{Exported, to-message, Back, back, history, observed, arrays-after, value-got, ReadOpened}
-use Rattle.demand3.specs.Open.{opened, observer-opened}
+use Rattle.demand3.specs.Open.{all-opened, observer-opened}
 use Rattle.demand3.specs.Conversation.{Case, on, asks, powered}
 use Rattle.demand3.specs.Examples.{label-changed, case-J}
 use Rattle.demand3.specs.CoatingShop.{old-pair, new-pair, saved-before, read-across-load, story}
 
-abbrev seen-in : List Case → List (Done (gauge bag552))
+abbrev seen-in : List Case → List (Done plain)
 seen-in cs = observed (history powered (map asks cs))
 
 abbrev entry : ℕ → ℕ → Key
@@ -30,15 +31,15 @@ label = entry 0x2001 0
 abbrev card : Key
 card = entry 0x2010 0
 
-abbrev did : Key → List ℕ → Done (gauge bag552)
+abbrev did : Key → List ℕ → Done plain
 did k bytes = (write k (announced (length bytes)) bytes, yes!)
 
-abbrev got : Key → List ℕ → Done (gauge bag552)
+abbrev got : Key → List ℕ → Done plain
 got k bytes = (read k, gave bytes)
 
 -- the read that was opened first stands first, with the old label; then the write; then the read of the new one
 pub J-seen : seen-in case-J ≡ got label (replicate 32 0) ∷ did label (replicate 32 0x41) ∷ got label (replicate 32 0x41) ∷ []
-unfolding label-changed case-J opened observer-opened
+unfolding label-changed case-J all-opened observer-opened
 J-seen = refl
 
 -- the torn read of the card would be no value of any gauge: what is seen is the old pair before the load, the new pair after it
@@ -53,7 +54,7 @@ pub story-seen :
     did card old-pair ∷
     got card old-pair ∷
     []
-unfolding story saved-before read-across-load old-pair new-pair opened observer-opened
+unfolding story saved-before read-across-load old-pair new-pair all-opened observer-opened
 story-seen = refl
 
 -- line 2, a room of seven bytes, a message of seven, the client's abort: 3, 2, 1 and 5, the rooms as they were, and no operation
@@ -68,11 +69,11 @@ unseen =
 pub unseen-numbers :
     map (λ (p : Exported × Back). p .1) (history powered unseen)
     ≡ back 3 (replicate 8 0xEE) ∷ back 2 (replicate 7 0xEE) ∷ back 1 (replicate 8 0xEE) ∷ back 5 (replicate 8 0xEE) ∷ []
-unfolding unseen opened
+unfolding unseen all-opened
 unseen-numbers = refl
 
 pub nothing-seen : observed (history powered unseen) ≡ []
-unfolding unseen opened observer-opened
+unfolding unseen all-opened observer-opened
 nothing-seen = refl
 
 -- THE COUNT OF PARTS AT WORK: a label of 32 bytes is opened on line 0; line 1 sets the lock between the parts; five parts end it
@@ -90,7 +91,7 @@ abbrev open-label : List ℕ
 open-label = 0x40 ∷ 0x01 ∷ 0x20 ∷ 0x00 ∷ 0x00 ∷ 0x00 ∷ 0x00 ∷ 0x00 ∷ []
 
 pub label-opened : ReadOpened powered 0 open-label (replicate 8 0) (replicate 32 0) (map asks label-parts)
-unfolding label-parts opened observer-opened record-call
+unfolding label-parts all-opened observer-opened record-call
 label-opened =
     record {
       answered = refl;
@@ -104,5 +105,5 @@ label-opened =
 
 -- exactly five parts: the value is had, and it is the label as it was at the opening
 pub label-finished : value-got tool (history (arrays-after powered 0 open-label (replicate 8 0)) (map asks label-parts)) ≡ some (replicate 32 0)
-unfolding label-parts opened observer-opened
+unfolding label-parts all-opened observer-opened
 label-finished = refl

@@ -11,7 +11,7 @@ use Rattle.command.specs.Words.{same-bytes}
 use Rattle.board.specs.Calls.{Called, called, message-call}
 use Rattle.demand3.specs.Firmware.{Arrays, arrays, Back, back, exported, history, final}
 use Rattle.demand3.specs.Promised.{Given, Meets}
-use Rattle.demand3.specs.Open.{opened}
+use Rattle.demand3.specs.Open.{all-opened}
 use Rattle.demand3.specs.Conversation.{Case, on, shown, asks, powered, gives-from, left-by, label-read, label-write}
 use Rattle.demand3.specs.Examples.{case-A, case-B, case-E, label-changed}
 use Rattle.demand3.specs.Refused.{eight-of, Aborts, Sends, Forgets, unheld, Fakes}
@@ -32,7 +32,7 @@ byte-of k o = getD (eight-of o) k 0
 -- ---- one that aborts every request: the lock is readable (case A)
 
 pub aborter-refused : (board : Given → Called) → Aborts board → Meets board → ⊥
-unfolding case-A opened
+unfolding case-A all-opened
 aborter-refused board aborts h =
     let e : _≡_ {A = ℕ} 0x80 0x4F = sym (aborts (first case-A) (ap number-of (h (first case-A)))) ∙ ap (byte-of 0) (h (first case-A)) in
     omega arith
@@ -40,7 +40,7 @@ aborter-refused board aborts h =
 -- ---- one that sends the same eight bytes always: case B against E
 
 pub constant-refused : (board : Given → Called) (same : List ℕ) → Sends same board → Meets board → ⊥
-unfolding case-B case-E opened
+unfolding case-B case-E all-opened
 constant-refused board same always h =
     let sent : (i : Given) → (board i) .number ≡ 0 → byte-of 0 (board i) ≡ getD same 0 0 = λ i z. ap (λ (l : List ℕ). getD l 0 0) (always i z) in
     let b : 0x60 ≡ getD same 0 0 = sym (ap (byte-of 0) (h (first case-B))) ∙ sent (first case-B) (ap number-of (h (first case-B))) in
@@ -69,15 +69,15 @@ abbrev next-byte : List ℕ → ℕ
 next-byte values = getD ((getD (gives-from (arrays values (left-by label-changed .block) (left-by label-changed .state)) (label-read 0 0)) 1 (back 0 [])) .room) 1 0
 
 next-changed : next-byte (left-by label-changed .values) ≡ 0x41
-unfolding label-changed opened
+unfolding label-changed all-opened
 next-changed = refl
 
 next-forgotten : next-byte (powered .values) ≡ 0
-unfolding label-changed opened
+unfolding label-changed all-opened
 next-forgotten = refl
 
 all-answered : map (λ (b : Back). b .number) (gives-from powered label-changed) ≡ map (λ (c : Case). 0) label-changed
-unfolding label-changed opened
+unfolding label-changed all-opened
 all-answered = refl
 
 pub forgetful-refused : (board : Given → Called) → Forgets board → Meets board → ⊥
@@ -104,22 +104,22 @@ same-list (x ∷ xs) [] e = absurd (false≢true e)
 same-list (x ∷ xs) (y ∷ ys) e = let p = and-eq-true-iff (eqb x y) _ .0 e in ap₂ _∷_ (eqb-true x y (p .0)) (same-list xs ys (p .1))
 
 values-alike : same-bytes (left-by opened-after .values) (left-by opened-before .values) ≡ true
-unfolding opened-before opened-after opened
+unfolding opened-before opened-after all-opened
 values-alike = refl
 
 block-alike : same-bytes (left-by opened-after .block) (left-by opened-before .block) ≡ true
-unfolding opened-before opened-after opened
+unfolding opened-before opened-after all-opened
 block-alike = refl
 
 state-alike : same-bytes (drop 64 (left-by opened-after .state)) (drop 64 (left-by opened-before .state)) ≡ true
-unfolding opened-before opened-after opened
+unfolding opened-before opened-after all-opened
 state-alike = refl
 
 alike : unheld (part-of opened-after) ≡ unheld (part-of opened-before)
 alike = rw (same-list _ _ values-alike, same-list _ _ block-alike, same-list _ _ state-alike)
 
 pub faker-refused : (board : Given → Called) (fake : Given → List ℕ) → Fakes fake board → Meets board → ⊥
-unfolding opened-before opened-after opened
+unfolding opened-before opened-after all-opened
 faker-refused board fake fakes h =
     let sent : (cs : List Case) → (board (part-of cs)) .number ≡ 0 → byte-of 1 (board (part-of cs)) ≡ getD (fake (unheld (part-of cs))) 1 0
     = λ cs z. ap (λ (l : List ℕ). getD l 1 0) (fakes (part-of cs) z refl (omega arith)) in

@@ -16,10 +16,10 @@ use Rattle.wire.proofs.SpliceLaws.{is-apart, part-apart}
 use Rattle.wire.proofs.LittleLaws.{length-little, from-little, number-apart}
 use Rattle.wire.proofs.FlagLaws.{set-back}
 use Rattle.trip.specs.declared.Trips.{Trips}
-use Rattle.sdo.specs.declared.Direction.{Direction}
-use Rattle.sdo.specs.declared.Direction.the-variants.{Neither, Reads, Writes}
-use Rattle.sdo.specs.declared.Transfer.{Transfer}
-use Rattle.sdo.proofs.RecordLaws.{Whole, Small}
+use Rattle.transfer.specs.declared.Direction.{Direction}
+use Rattle.transfer.specs.declared.Direction.the-variants.{Neither, Reads, Writes}
+use Rattle.transfer.specs.declared.Transfer.{Transfer}
+use Rattle.transfer.proofs.RecordLaws.{Whole, Small}
 use Rattle.state.specs.State.{direction-of, direction-byte, record-at, record-tail, record-bytes, trips-place, trips-at, trips-bytes}
 
 -- ---- parts of what was written

@@ -5,9 +5,9 @@ use mathlib.Core.Bool.{Bool, true, false, cond, not, Bool·beq}
 use mathlib.Core.List.{List, _++_}
 use lib.Dec.{ltb}
 use lib.ListN.{length}
-use Rattle.order.specs.Talk.{Said, Request, open-read, next-part, expedited, open-write, send-part, give-up, unknown, Answer, write-opened, part-taken, Sizes, sizes, closed, Outcome, stored, restarted, declined, Pending, idle, reading, writing}
+use Rattle.order.specs.Talk.{Said, Request, open-read, next-part, expedited, open-write, send-part, give-up, unknown, Answer, write-opened, part-taken, dropped, Sizes, sizes, closed, Outcome, stored, restarted, declined, Pending, idle, reading, writing}
 use Rattle.order.specs.Gauge.{too-long, too-short, by-length, counted, judged, judged-by, allowed, write-whole}
-use Rattle.order.specs.Serve.{Form, Served, conclude, take-part, write-part, serve}
+use Rattle.order.specs.Serve.{Form, toggle-code, over, Served, keeping, conclude, take-part, write-part, serve}
 use Rattle.order.specs.Keep.{is-wiped, speak}
 use Rattle.trip.specs.Trip.{all-off}
 use Rattle.gauge.specs.Memory.{Memory, Store}
@@ -67,7 +67,7 @@ module _ (g : Store) where
   kept-serve F (reading k held place t) (send-part u bytes last) = refl
   kept-serve F (writing k low high sent t) (send-part u bytes last) = go (Bool·beq t u) last
     where
-      go : (d e : Bool) → TripsKept (cond d (take-part plain g k low high (sent ++ bytes) (not t) e (part-taken t)) _)
+      go : (d e : Bool) → TripsKept (cond d (take-part plain g k low high (sent ++ bytes) (not t) e (part-taken t)) (keeping plain g (over plain (dropped k toggle-code))))
       go true true = kept-conclude k (part-taken t) (judged plain g k low high (sent ++ bytes)) (tripped-judged k low high (sent ++ bytes))
       go true false = refl
       go false e = refl

@@ -12,7 +12,7 @@ use Rattle.order.specs.Gauge.{results, end-of}
 use Rattle.order.specs.Serve.{Setup}
 use Rattle.order.specs.Observe.{Done, follow}
 use Rattle.order.specs.Promise.{ends-write, ops-of, got-of, Right}
-use Rattle.order.specs.Bytes.{Call, heard, fed, meant, reads, client}
+use Rattle.order.specs.Bytes.{Call, heard, sensed, meant, reads, client}
 use Rattle.order.specs.Keep.{RecordBoard, NoReset, parts-asked-in}
 use Rattle.trip.specs.Trip.{all-off}
 use Rattle.gauge.specs.Memory.{Store, memory-of}
@@ -107,7 +107,7 @@ Answered = Call setup × List ℕ
 
 unfoldable pub event-of : Exported → Back → Option Answered
 event-of (to-message line m room) b = Option·map (λ bytes. (heard (line-of line) m, bytes)) (answer-by b)
-event-of (to-sample s) b = cond (eqb (b .number) 0) (some (fed s, [])) none
+event-of (to-sample s) b = cond (eqb (b .number) 0) (some (sensed s, [])) none
 event-of (to-image room) b = none
 
 unfoldable pub with-event : Option Answered → List Answered → List Answered
@@ -167,7 +167,7 @@ value-got l ps = follow setup l (map (reads setup) (events ps)) []
 
 -- how many messages the line's client sends among these calls
 abbrev pub parts-asked : Line → List (Exported × Back) → ℕ
-parts-asked l ps = parts-asked-in setup transfers l (calls-in ps)
+parts-asked l ps = parts-asked-in setup l (calls-in ps)
 
 -- a message that is answered opens a read of an entry that holds these bytes, more than four, and these calls come after it: the line's own
 -- messages among them ask for parts with right toggles, and no device reset is done (R6.6)

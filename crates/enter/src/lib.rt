@@ -1,5 +1,6 @@
 // A trip card that is written: its fields, its judgement, and the write into the trip entries.
 use entry::limits::Verdict;
+use table::kind;
 use table::place;
 use wire::wide;
 ghost use mathlib.Core.Bool.{_&&_};
@@ -61,11 +62,11 @@ fn judge_layout(v: u32) -> Verdict
     Verdict::NotANumber
 }
 
-// 5 is REAL, and 0x80000000 and 0xC4BB8000 the ranks of 0 and 1500: the limits of each level and hysteresis in the table.
+// 0x80000000 and 0xC4BB8000 are the ranks of 0 and 1500: the limits of each level and hysteresis in the table.
 fn judge_level(v: u32) -> Verdict
     ensures { λ r. ⌜ r ≡ level-verdict v ⌝ }
 {
-    entry::limits::judge_number(5, 0x80000000, 0xC4BB8000, v)
+    entry::limits::judge_number(kind::REAL, 0x80000000, 0xC4BB8000, v)
 }
 
 fn first(a: Verdict, b: Verdict) -> Verdict

@@ -2,6 +2,7 @@
 pub mod limits;
 
 use limits::Verdict;
+use table::kind;
 use wire::wide;
 ghost use mathlib.Core.Path.{_≡_};
 ghost use Prim.Native.Nat.{_+_, _<_, _≤_};
@@ -18,7 +19,7 @@ fn held_by(kind: u8, len: usize) -> usize
     ensures { λ r. ⌜ r ≡ held-by kind len ⌝ }
 {
     match kind {
-        0..=6 => len,
+        kind::BOOL..=kind::STRING => len,
         _ => 0,
     }
 }
@@ -30,10 +31,10 @@ pub fn number_by(bytes: &[u8], at: usize, kind: u8) -> u32
     requires { ⌜ at + number-len kind ≤ length (now bytes) ⌝ }
     ensures { λ r. ⌜ r ≡ number (now (bytes .entry)) at (number-len kind) ⌝ }
 {
-    if 2 < kind {
+    if kind::UINT < kind {
         return wire::word_at(bytes, at);
     }
-    if kind == 2 {
+    if kind == kind::UINT {
         return wire::pair_at(bytes, at) as u32;
     }
     wide::to_u32(wire::byte_at(bytes, at))
@@ -54,7 +55,7 @@ pub fn judge(row: usize, kind: u8, value: &[u8]) -> Verdict
     ensures { λ r. ⌜ r ≡ row-verdict (at-row row) (now (value .entry)) ⌝ }
 {
     match kind {
-        0..=3 | 5 => judge_kind(kind, row, number_by(value, 0, kind)),
+        kind::BOOL..=kind::UDINT | kind::REAL => judge_kind(kind, row, number_by(value, 0, kind)),
         _ => Verdict::Within,
     }
 }

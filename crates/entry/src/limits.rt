@@ -1,9 +1,17 @@
 // A number against the limits of its row, which are ranks: their places in the order of the type.
+use table::kind;
 ghost use mathlib.Core.Path.{_≡_};
 ghost use Rattle.entry.specs.Limits.{whole-verdict, verdict-code};
 ghost use Rattle.entry.specs.Ranks.{rank-verdict};
 ghost use Rattle.table.specs.Row.{REAL};
 ghost use Rattle.table.specs.Rule.{rank};
+
+// The codes of a value that its row's limits refuse.
+const NO_NUMBER: u32 = 0x06090030;
+
+const TOO_HIGH: u32 = 0x06090031;
+
+const TOO_LOW: u32 = 0x06090032;
 
 pub enum Verdict {
     Within,
@@ -18,9 +26,9 @@ pub fn code_of(verdict: Verdict) -> u32
 {
     match verdict {
         Verdict::Within => 0,
-        Verdict::NotANumber => 0x06090030,
-        Verdict::Above => 0x06090031,
-        Verdict::Below => 0x06090032,
+        Verdict::NotANumber => NO_NUMBER,
+        Verdict::Above => TOO_HIGH,
+        Verdict::Below => TOO_LOW,
     }
 }
 
@@ -28,7 +36,7 @@ pub fn code_of(verdict: Verdict) -> u32
 pub fn rank_of(kind: u8, v: u32) -> u32
     ensures { λ r. ⌜ r ≡ rank kind v ⌝ }
 {
-    if kind != 5 {
+    if kind != kind::REAL {
         return v;
     }
     if v < 2147483648 {
@@ -56,7 +64,7 @@ fn judge_real(low: u32, high: u32, v: u32) -> Verdict
     if 2139095040 < v % 2147483648 {
         return Verdict::NotANumber;
     }
-    judge_whole(low, high, rank_of(5, v))
+    judge_whole(low, high, rank_of(kind::REAL, v))
 }
 
 // Any number of a row against that row's kind and limits.
@@ -64,8 +72,8 @@ pub fn judge_number(kind: u8, low: u32, high: u32, v: u32) -> Verdict
     ensures { λ r. ⌜ r ≡ rank-verdict kind low high v ⌝ }
 {
     match kind {
-        0..=4 => judge_whole(low, high, v),
-        5 => judge_real(low, high, v),
+        kind::BOOL..=kind::ULINT => judge_whole(low, high, v),
+        kind::REAL => judge_real(low, high, v),
         _ => Verdict::Within,
     }
 }

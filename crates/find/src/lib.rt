@@ -5,6 +5,7 @@ pub mod field;
 mod page;
 
 use table::Found;
+use table::code;
 use wire::wide;
 ghost use mathlib.Core.Path.{_≡_};
 ghost use Prim.Native.Nat.{_+_, _/_, _≤_};
@@ -13,15 +14,14 @@ ghost use Rattle.table.specs.Rows.{at-row};
 ghost use Rattle.table.specs.Rule.{key as row-key};
 ghost use Rattle.find.specs.Columns.{column};
 ghost use Rattle.table.specs.Find.{absence, find-row};
-ghost use Rattle.find.specs.Search.{find-key, with-shape, Near};
+ghost use Rattle.find.specs.Search.{find-key, gate-by, Near};
 
 pub const ROWS: usize = columns::ROWS;
 
-// The same, with the row's shape (field.rt), which is read on the way.
-pub enum Sought {
-    Row(usize, u16),
-    NoIndex,
-    NoSub,
+// Where a key leads: to a row, and beside it stands the row's shape (field.rt), which is read on the way; or nowhere, and the code says why.
+pub enum Gate {
+    Open(usize, u16),
+    Shut(u32),
 }
 
 // Row base + at is below the key: so is the row a step on, or it is not. Where the row two steps on is not, one hop is enough. Keys rise.
@@ -95,97 +95,97 @@ fn search_rest(keys: &[u32], key: u32) -> Found
 // ---- by pages: each function lays out the keys and shapes of its own rows, as in page.rt, and reads none for a key in an area without
 // rows. On a page that lies inside areas with rows the compiler sees the answer and leaves the question out.
 
-fn find_from_0(key: u32) -> Sought
+fn find_from_0(key: u32) -> Gate
     requires { ⌜ Near 31 0 key ⌝ }
-    ensures { λ r. ⌜ r ≡ with-shape (find-key key) ⌝ }
+    ensures { λ r. ⌜ r ≡ gate-by (find-key key) ⌝ }
 {
     if area::is_empty(key) {
-        return Sought::NoIndex;
+        return Gate::Shut(code::INDEX_ABSENT);
     }
     let found = search(&columns::KEY, 0, key);
     match found {
-        Found::At(row) => Sought::Row(row, page::shape_from_0(row)),
-        Found::NoIndex => Sought::NoIndex,
-        Found::NoSub => Sought::NoSub,
+        Found::At(row) => Gate::Open(row, page::shape_from_0(row)),
+        Found::NoIndex => Gate::Shut(code::INDEX_ABSENT),
+        Found::NoSub => Gate::Shut(code::SUBINDEX_ABSENT),
     }
 }
 
-fn find_from_32(key: u32) -> Sought
+fn find_from_32(key: u32) -> Gate
     requires { ⌜ Near 32 31 key ⌝ }
-    ensures { λ r. ⌜ r ≡ with-shape (find-key key) ⌝ }
+    ensures { λ r. ⌜ r ≡ gate-by (find-key key) ⌝ }
 {
     if area::is_empty(key) {
-        return Sought::NoIndex;
+        return Gate::Shut(code::INDEX_ABSENT);
     }
     let found = search(&columns::KEY, 31, key);
     match found {
-        Found::At(row) => Sought::Row(row, page::shape_from_32(row)),
-        Found::NoIndex => Sought::NoIndex,
-        Found::NoSub => Sought::NoSub,
+        Found::At(row) => Gate::Open(row, page::shape_from_32(row)),
+        Found::NoIndex => Gate::Shut(code::INDEX_ABSENT),
+        Found::NoSub => Gate::Shut(code::SUBINDEX_ABSENT),
     }
 }
 
-fn find_from_64(key: u32) -> Sought
+fn find_from_64(key: u32) -> Gate
     requires { ⌜ Near 32 63 key ⌝ }
-    ensures { λ r. ⌜ r ≡ with-shape (find-key key) ⌝ }
+    ensures { λ r. ⌜ r ≡ gate-by (find-key key) ⌝ }
 {
     if area::is_empty(key) {
-        return Sought::NoIndex;
+        return Gate::Shut(code::INDEX_ABSENT);
     }
     let found = search(&columns::KEY, 63, key);
     match found {
-        Found::At(row) => Sought::Row(row, page::shape_from_64(row)),
-        Found::NoIndex => Sought::NoIndex,
-        Found::NoSub => Sought::NoSub,
+        Found::At(row) => Gate::Open(row, page::shape_from_64(row)),
+        Found::NoIndex => Gate::Shut(code::INDEX_ABSENT),
+        Found::NoSub => Gate::Shut(code::SUBINDEX_ABSENT),
     }
 }
 
-fn find_from_96(key: u32) -> Sought
+fn find_from_96(key: u32) -> Gate
     requires { ⌜ Near 32 95 key ⌝ }
-    ensures { λ r. ⌜ r ≡ with-shape (find-key key) ⌝ }
+    ensures { λ r. ⌜ r ≡ gate-by (find-key key) ⌝ }
 {
     if area::is_empty(key) {
-        return Sought::NoIndex;
+        return Gate::Shut(code::INDEX_ABSENT);
     }
     let found = search(&columns::KEY, 95, key);
     match found {
-        Found::At(row) => Sought::Row(row, page::shape_from_96(row)),
-        Found::NoIndex => Sought::NoIndex,
-        Found::NoSub => Sought::NoSub,
+        Found::At(row) => Gate::Open(row, page::shape_from_96(row)),
+        Found::NoIndex => Gate::Shut(code::INDEX_ABSENT),
+        Found::NoSub => Gate::Shut(code::SUBINDEX_ABSENT),
     }
 }
 
-fn find_from_128(key: u32) -> Sought
+fn find_from_128(key: u32) -> Gate
     requires { ⌜ Near 512 127 key ⌝ }
-    ensures { λ r. ⌜ r ≡ with-shape (find-key key) ⌝ }
+    ensures { λ r. ⌜ r ≡ gate-by (find-key key) ⌝ }
 {
     if area::is_empty(key) {
-        return Sought::NoIndex;
+        return Gate::Shut(code::INDEX_ABSENT);
     }
     let found = search_rest(&columns::KEY, key);
     match found {
-        Found::At(row) => Sought::Row(row, page::shape_from_128(row)),
-        Found::NoIndex => Sought::NoIndex,
-        Found::NoSub => Sought::NoSub,
+        Found::At(row) => Gate::Open(row, page::shape_from_128(row)),
+        Found::NoIndex => Gate::Shut(code::INDEX_ABSENT),
+        Found::NoSub => Gate::Shut(code::SUBINDEX_ABSENT),
     }
 }
 
 // No row is below the key.
-fn find_first(key: u32) -> Sought
+fn find_first(key: u32) -> Gate
     requires { ⌜ key ≤ row-key (at-row 0) ⌝ }
-    ensures { λ r. ⌜ r ≡ with-shape (find-key key) ⌝ }
+    ensures { λ r. ⌜ r ≡ gate-by (find-key key) ⌝ }
 {
     if columns::FIRST_KEY == key {
-        return Sought::Row(0, columns::FIRST_SHAPE);
+        return Gate::Open(0, columns::FIRST_SHAPE);
     }
     if columns::FIRST_KEY / 256 == key / 256 {
-        return Sought::NoSub;
+        return Gate::Shut(code::SUBINDEX_ABSENT);
     }
-    Sought::NoIndex
+    Gate::Shut(code::INDEX_ABSENT)
 }
 
-fn find_key(key: u32) -> Sought
-    ensures { λ r. ⌜ r ≡ with-shape (find-key key) ⌝ }
+fn find_key(key: u32) -> Gate
+    ensures { λ r. ⌜ r ≡ gate-by (find-key key) ⌝ }
 {
     if columns::KEY_63 < key {
         if columns::KEY_127 < key {
@@ -205,9 +205,9 @@ fn find_key(key: u32) -> Sought
     find_first(key)
 }
 
-// The row with the index and subindex, and its shape, or which of the two is absent.
-pub fn find(index: u16, sub: u8) -> Sought
-    ensures { λ r. ⌜ r ≡ with-shape (find-row index sub) ⌝ }
+// By index and subindex: a row is open, and the code of a shut gate says which of the two is absent.
+pub fn find(index: u16, sub: u8) -> Gate
+    ensures { λ r. ⌜ r ≡ gate-by (find-row index sub) ⌝ }
 {
     find_key((index as u32) * 256 + wide::to_u32(sub))
 }

@@ -8,27 +8,24 @@ use borrow.Author.Tests.{eqb-false, eq-eqb, ne-eqb}
 use Rattle.table.specs.Rows.{at-row}
 use Rattle.find.specs.Columns.{shape, access-in}
 use Rattle.table.specs.Find.{find-row}
-use Rattle.find.specs.Search.{with-shape}
+use Rattle.find.specs.Search.{gate-by}
 use Rattle.table.specs.declared.Found.{Found}
 use Rattle.table.specs.declared.Found.the-variants.{At, NoIndex, NoSub}
-use Rattle.find.specs.declared.Sought.{Sought}
-use Rattle.find.specs.declared.Sought.the-variants.{Row as Row', NoIndex as NoIndex', NoSub as NoSub'}
 use Rattle.table.proofs.Table.{find-at}
-use Rattle.find.proofs.Way.{sought-row, sought-no-index, sought-no-sub}
+use Rattle.find.proofs.Way.{open-row}
 use Rattle.find.proofs.Shapes.{access-told}
-use Rattle.gate.specs.Codes.{index-absent, subindex-absent}
 use Rattle.gate.specs.Gates.{to-row, no-way, gate, way-of, Shaped}
-use Rattle.gate.specs.declared.Gate.{Gate}
-use Rattle.gate.specs.declared.Gate.the-variants.{Open, Shut}
+use Rattle.find.specs.declared.Gate.{Gate}
+use Rattle.find.specs.declared.Gate.the-variants.{Open, Shut}
 
-module _ (barred code index sub : ℕ) {f : Sought} (sought : f ≡ with-shape (find-row index sub)) where
+module _ (barred code index sub : ℕ) {f : Gate} (found : f ≡ gate-by (find-row index sub)) where
   -- what the code promises of the enum that it gives
   abbrev Gated : Gate → Type 0
   Gated g = (way-of g ≡ gate barred code (find-row index sub)) × Shaped g
 
-  module _ (r s a : ℕ) (e : f ≡ Row' r s) (q : a ≡ access-in s) where
+  module _ (r s a : ℕ) (e : f ≡ Open r s) (q : a ≡ access-in s) where
     told : (find-row index sub ≡ At r) × (s ≡ shape (at-row r))
-    told = sought-row (find-row index sub) (sym e ∙ sought)
+    told = open-row (find-row index sub) (sym e ∙ found)
 
     access : a ≡ at-row r .access
     access = access-told r (find-at index sub r (told .0) .there) (told .1) q
@@ -37,17 +34,18 @@ module _ (barred code index sub : ℕ) {f : Sought} (sought : f ≡ with-shape (
     unfolding gate way-of Shaped
     barred-row b = (rw (told .0, eq-eqb (at-row r .access) barred (sym access ∙ b)), tt)
 
-    pub open-row : (a ≡ barred → ⊥) → Gated (Open r s)
+    pub allowed-row : (a ≡ barred → ⊥) → Gated (Open r s)
     unfolding gate way-of Shaped
-    open-row b = (rw (told .0, ne-eqb (at-row r .access) barred (λ z. b (access ∙ z))), told .1)
+    allowed-row b = (rw (told .0, ne-eqb (at-row r .access) barred (λ z. b (access ∙ z))), told .1)
 
-  pub no-index : f ≡ NoIndex' → Gated (Shut index-absent)
-  unfolding gate way-of Shaped
-  no-index e = (rw (sought-no-index (find-row index sub) (sym e ∙ sought)), tt)
-
-  pub no-sub : f ≡ NoSub' → Gated (Shut subindex-absent)
-  unfolding gate way-of Shaped
-  no-sub e = (rw (sought-no-sub (find-row index sub) (sym e ∙ sought)), tt)
+  pub stays-shut : (c : ℕ) → f ≡ Shut c → Gated (Shut c)
+  unfolding gate gate-by way-of Shaped
+  stays-shut c e = (go (find-row index sub) (sym e ∙ found), tt)
+    where
+      go : (d : Found) → Shut c ≡ gate-by d → way-of (Shut c) ≡ gate barred code d
+      go (At r) q = let z : _≡_ {A = ℕ} 0 1 = cc in absurd (omega arith)
+      go NoIndex q = ap way-of q
+      go NoSub q = ap way-of q
 
 -- ---- what an open gate says
 

@@ -8,9 +8,9 @@ use Rattle.table.specs.Rows.{at-row}
 use Rattle.find.specs.Columns.{shape}
 use Rattle.table.specs.declared.Found.{Found}
 use Rattle.table.specs.declared.Found.the-variants.{At, NoIndex, NoSub}
-use Rattle.gate.specs.Codes.{index-absent, subindex-absent, write-only, read-only}
-use Rattle.gate.specs.declared.Gate.{Gate}
-use Rattle.gate.specs.declared.Gate.the-variants.{Open, Shut}
+use Rattle.table.specs.Codes.{index-absent, subindex-absent, write-only, read-only}
+use Rattle.find.specs.declared.Gate.{Gate}
+use Rattle.find.specs.declared.Gate.the-variants.{Open, Shut}
 
 -- where a key leads: to a row, or no way, and the code says why
 pub data Way : Type 0 where

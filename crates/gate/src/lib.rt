@@ -1,43 +1,38 @@
 // What may be read and written: the table's checks of a key, index, subindex and access; and the setup lock.
 pub mod lock;
 
-use find::Sought;
+use find::Gate;
 use find::field;
+use table::access;
+use table::code;
 ghost use mathlib.Core.Path.{_≡_};
 ghost use Rattle.table.specs.Find.{find-row};
 ghost use Rattle.gate.specs.Gates.{gate, read-gate, write-gate, way-of, Shaped};
 
-// The row that a key leads to, with its shape, or the code that refuses it.
-pub enum Gate {
-    Open(usize, u16),
-    Shut(u32),
-}
-
-// The way to a row, where rows of one access are barred.
+// The gate to a row, shut where rows of one access are barred.
 fn way(index: u16, sub: u8, barred: u8, code: u32) -> Gate
     ensures { λ r. ⌜ (way-of r ≡ gate barred code (find-row index sub)) × Shaped r ⌝ }
 {
     let found = find::find(index, sub);
     match found {
-        Sought::Row(row, shape) => {
+        Gate::Open(row, shape) => {
             if field::access_in(shape) == barred {
                 return Gate::Shut(code);
             }
             Gate::Open(row, shape)
         }
-        Sought::NoIndex => Gate::Shut(0x06020000),
-        Sought::NoSub => Gate::Shut(0x06090011),
+        Gate::Shut(absent) => Gate::Shut(absent),
     }
 }
 
 pub fn to_read(index: u16, sub: u8) -> Gate
     ensures { λ r. ⌜ (way-of r ≡ read-gate (find-row index sub)) × Shaped r ⌝ }
 {
-    way(index, sub, 2, 0x06010001)
+    way(index, sub, access::WO, code::WRITE_ONLY)
 }
 
 pub fn to_write(index: u16, sub: u8) -> Gate
     ensures { λ r. ⌜ (way-of r ≡ write-gate (find-row index sub)) × Shaped r ⌝ }
 {
-    way(index, sub, 1, 0x06010002)
+    way(index, sub, access::RO, code::READ_ONLY)
 }

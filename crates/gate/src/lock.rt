@@ -1,5 +1,6 @@
 // The setup lock.
 use find::field;
+use table::kind;
 use table::place;
 use table::row;
 ghost use mathlib.Core.Path.{_≡_};
@@ -16,10 +17,10 @@ fn guards(row: usize, kind: u8) -> bool
     if field::nv_of(row) == 1 {
         return true;
     }
-    if kind == 7 {
+    if kind == kind::CARD {
         return true;
     }
-    if kind == 8 {
+    if kind == kind::COMMAND {
         return row == row::LOAD_PARAMETERS;
     }
     false

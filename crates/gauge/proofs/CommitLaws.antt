@@ -24,7 +24,7 @@ use Rattle.entry.proofs.RowLaws.{held-is}
 use Rattle.card.specs.Card.{card-of, card-verdict, with-card}
 use Rattle.block.specs.Saved.{storable, loadable, loaded}
 use Rattle.block.specs.Saved as saved
-use Rattle.gate.specs.Codes.{lock-shut}
+use Rattle.table.specs.Codes.{lock-shut}
 use Rattle.gate.specs.Lock.{locked}
 use Rattle.command.specs.Words.{command-at, word-of, read-word, with-status, same-bytes}
 use Rattle.command.specs.Exceptions.{exceptions-cleared}

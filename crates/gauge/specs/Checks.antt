@@ -12,7 +12,7 @@ use Rattle.table.specs.Row.{Row, RO, WO, CARD}
 use Rattle.table.specs.Rows.{row-count, at-row}
 use Rattle.table.specs.declared.Found.{Found}
 use Rattle.table.specs.declared.Found.the-variants.{At, NoIndex, NoSub}
-use Rattle.gate.specs.Codes.{index-absent, subindex-absent, write-only, read-only, lock-shut}
+use Rattle.table.specs.Codes.{index-absent, subindex-absent, write-only, read-only, lock-shut}
 use Rattle.gate.specs.Lock.{locked}
 use Rattle.entry.specs.Limits.{verdict-code}
 use Rattle.entry.specs.Entry.{row-verdict}

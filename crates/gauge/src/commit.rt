@@ -4,6 +4,8 @@ use command::exception;
 use command::word;
 use command::word::Command;
 use gate::lock;
+use table::code;
+use table::kind;
 ghost use mathlib.Core.Path.{_≡_};
 ghost use Prim.Native.Nat.{_<_};
 ghost use lib.ListN.{length};
@@ -73,9 +75,9 @@ fn refusal(values: &[u8], row: usize, kind: u8, bytes: &[u8]) -> u32
     ensures { λ r. ⌜ r ≡ told (refused-by (asked-last row (now (bytes .entry)) (now (values .entry))) last-order) ⌝ }
 {
     if lock::refuses(values, row, kind) {
-        return 0x08000022;
+        return code::LOCK_SHUT;
     }
-    if kind == 7 {
+    if kind == kind::CARD {
         return entry::limits::code_of(enter::judge(bytes));
     }
     entry::limits::code_of(entry::judge(row, kind, bytes))
@@ -86,11 +88,11 @@ fn put(values: &mut [u8], block: &mut [u8], row: usize, kind: u8, bytes: &[u8]) 
     requires { ⌜ (length (now values) ≡ 1024) × (length (now block) ≡ 512) × (row < row-count) × (kind ≡ at-row row .kind) × (length (now bytes) ≡ at-row row .len) ⌝ }
     ensures { λ r. ⌜ left r (now (values .exit)) (now (block .exit)) ≡ left-by (memory-of (now (values .entry)) (now (block .entry))) (effect (at-row row) (now (bytes .entry)) (memory-of (now (values .entry)) (now (block .entry)))) ⌝ }
 {
-    if kind == 7 {
+    if kind == kind::CARD {
         enter::write(values, bytes);
         return Ending::Accepted;
     }
-    if kind == 8 {
+    if kind == kind::COMMAND {
         return obey(values, block, word::command_at(row), bytes);
     }
     entry::store_entry(values, row, bytes);

@@ -1,5 +1,6 @@
 // A whole read of a row.
 use command::word;
+use table::kind;
 ghost use mathlib.Core.Path.{_≡_};
 ghost use Prim.Native.Nat.{_<_};
 ghost use lib.ListN.{length, replicate};
@@ -12,10 +13,10 @@ pub fn value_of(values: &[u8], row: usize, kind: u8, len: usize) -> [u8; 64]
     requires { ⌜ (length (now values) ≡ 1024) × (row < row-count) × (kind ≡ at-row row .kind) × (len ≡ at-row row .len) ⌝ }
     ensures { λ r. ⌜ r ≡ splice (replicate 64 0) 0 (value-of (at-row row) (now (values .entry))) ⌝ }
 {
-    if kind < 7 {
+    if kind < kind::CARD {
         return entry::read_entry(values, row, kind, len);
     }
-    if kind == 7 {
+    if kind == kind::CARD {
         return card::card_of(values);
     }
     word::reading(word::command_at(row))

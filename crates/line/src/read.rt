@@ -1,9 +1,10 @@
 // Reads on a line: openings and parts.
 use crate::reply;
 use command::word;
-use gate::Gate;
+use find::Gate;
 use sdo::Key;
 use sdo::answer;
+use table::kind;
 use transfer::Direction;
 use transfer::Transfer;
 ghost use mathlib.Core.Bool.{true};
@@ -73,7 +74,7 @@ fn short_answer(values: &[u8], k: Key, row: usize, kind: u8, len: usize) -> [u8;
     requires { ⌜ (length (now values) ≡ 1024) × ((row < row-count) × (k ≡ key-at row)) × (kind ≡ at-row row .kind) × (len ≡ at-row row .len) × ((1 ≤ len) × (len ≤ 4)) ⌝ }
     ensures { λ r. ⌜ r ≡ answer-of (opened k len (value-of (at-row row) (now (values .entry))) true) ⌝ }
 {
-    if kind < 7 {
+    if kind < kind::CARD {
         let place = find::field::place_of(row);
         return answer::opened_short(k, &values[place..place + len], len);
     }

@@ -51,5 +51,5 @@ pub fn wrong_toggle(state: &mut [u8], at: usize, room: &mut [u8], k: Key)
     requires { ⌜ Room at (now state) (now room) ⌝ }
     ensures { λ _. ⌜ kept (now (state .exit)) (now (room .exit)) ≡ put-down at (now (state .entry)) (now (room .entry)) zero-record (answer-of (dropped k toggle-code)) ⌝ }
 {
-    ended(state, at, room, answer::abort(k, 0x05030000));
+    ended(state, at, room, answer::abort(k, answer::WRONG_TOGGLE));
 }

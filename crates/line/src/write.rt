@@ -1,10 +1,11 @@
 // Writes on a line: openings, with the value or without, and parts.
 use crate::reply;
-use gate::Gate;
+use find::Gate;
 use gauge::commit::Ending;
 use sdo::Key;
 use sdo::Opening;
 use sdo::answer;
+use table::code;
 use transfer::Direction;
 use transfer::Transfer;
 ghost use mathlib.Core.Bool.{true, not};
@@ -32,10 +33,10 @@ fn length_fault(low: usize, high: usize, n: usize) -> u32
     ensures { λ r. ⌜ r ≡ by-length low high n (λ c. c) 0 ⌝ }
 {
     if high < n {
-        return 0x06070012;
+        return code::TOO_LONG;
     }
     if n < low {
-        return 0x06070013;
+        return code::TOO_SHORT;
     }
     0
 }
@@ -81,7 +82,7 @@ fn take_more(
     let row = t.row;
     let eight = answer::part_taken(t.toggle);
     if t.len < t.place + count {
-        reply::refused(state, at, room, transfer::key_at(row), 0x06070012);
+        reply::refused(state, at, room, transfer::key_at(row), code::TOO_LONG);
         return;
     }
     state::put_part(state, at, t, m, from, count);
@@ -231,7 +232,7 @@ fn write_own(
     ensures { λ _. ⌜ told (now (values .exit)) (now (block .exit)) (now (state .exit)) (now (room .exit)) ≡ told-by at (now (state .entry)) (now (room .entry)) (spoken-over zero-record (conclude plain (store-of (now (values .entry)) (now (block .entry)) (now (state .entry))) k (write-opened k) (judged-by plain (store-of (now (values .entry)) (now (block .entry)) (now (state .entry))) k own (take count (drop from (now (m .entry)))) (narrowed len len own)))) ⌝ }
 {
     if count < len {
-        reply::refused(state, at, room, k, 0x06070013);
+        reply::refused(state, at, room, k, code::TOO_SHORT);
         return;
     }
     with_value(values, block, state, at, k, row, &m[from..from + len], room);

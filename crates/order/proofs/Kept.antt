@@ -11,7 +11,7 @@ use Rattle.order.specs.Gauge.{Gauge}
 use Rattle.order.specs.Serve.{Form, Speech, if-same, put-at, Setup, After, kept, wiped, left, Reply, read-opening, Served, serve, Board, served-on, leave, step, trace}
 use Rattle.order.specs.Observe.{Pairs, follow}
 use Rattle.order.specs.Promise.{ends-write, is-abort, Spares, start, Right, Calm, Ends}
-use Rattle.order.specs.Bytes.{Call, heard, fed, meant, call, talk, reads, after-all, SerialBytes, Clear}
+use Rattle.order.specs.Bytes.{Call, heard, sensed, meant, call, talk, reads, after-all, SerialBytes, Clear}
 use Rattle.order.specs.Keep.{Keeping, is-wiped, spoken, speak, RecordBoard, record-call, record-talk, record-end, record-start, Demand3Records, NoReset, RecordParts, record-got, RecordEnds, Again, Keeps}
 use Rattle.order.proofs.Serial.{by-cond, own-line}
 use Rattle.order.proofs.Count.{untouched, aborts-drop, ends}
@@ -37,7 +37,7 @@ module _ (P : Gauge) (R : Keeping (P .Key)) (H : Speech (P .Key) (P .Name)) (g :
 
 -- ---- the two boards, call by call
 
-module _ (S : Setup) (R : Keeping (S .gauge .Key)) (K : Keeps S R) where
+module _ (S : Setup) (R : Keeping (S .gauge .Key)) {Good : S .gauge .Store → Type 0} {Whole : R .Record → Type 0} (K : Keeps S R Good Whole) where
   abbrev P : Gauge
   P = S .gauge
 
@@ -45,10 +45,10 @@ module _ (S : Setup) (R : Keeping (S .gauge .Key)) (K : Keeps S R) where
   pub record Shows (b : RecordBoard S R) (d : Board S) : Type 0 where
     pub same-store : b .store ≡ d .store
     pub same-lines : (l : S .wires .Line) → R .view (b .records l) ≡ S .wires .at (d .lines) l
-    pub good : K .Good (b .store)
-    pub whole : (l : S .wires .Line) → K .Whole (b .records l)
+    pub good : Good (b .store)
+    pub whole : (l : S .wires .Line) → Whole (b .records l)
 
-  pub shows-start : (g : P .Store) → K .Good g → Shows (record-start S R g) (start S g)
+  pub shows-start : (g : P .Store) → Good g → Shows (record-start S R g) (start S g)
   shows-start g ok = record { same-store = refl; same-lines = λ l. K .empty-idle ∙ sym (S .wires .at-clear l); good = ok; whole = λ l. K .empty-whole }
 
   -- after a message of line l, which leaves t there, each record stands for what its line holds
@@ -63,13 +63,13 @@ module _ (S : Setup) (R : Keeping (S .gauge .Key)) (K : Keeps S R) where
       go (no q) = h ∙ sym (S .wires .at-other ls l n x q)
 
   -- and all are whole
-  whole-after : (rs : S .wires .Line → R .Record) (l n : S .wires .Line) (t : R .Record) (wipes : Bool) → K .Whole t → K .Whole (rs n)
-      → K .Whole (cond wipes (λ m. R .empty) (put-at (S .wires .same) rs l t) n)
+  whole-after : (rs : S .wires .Line → R .Record) (l n : S .wires .Line) (t : R .Record) (wipes : Bool) → Whole t → Whole (rs n)
+      → Whole (cond wipes (λ m. R .empty) (put-at (S .wires .same) rs l t) n)
   unfolding put-at
   whole-after rs l n t true w h = K .empty-whole
   whole-after rs l n t false w h = go (S .wires .same n l)
     where
-      go : (d : Dec (n ≡ l)) → K .Whole (if-same d t (rs n))
+      go : (d : Dec (n ≡ l)) → Whole (if-same d t (rs n))
       go (yes e) = w
       go (no e) = h
 
@@ -85,7 +85,7 @@ module _ (S : Setup) (R : Keeping (S .gauge .Key)) (K : Keeps S R) where
 
   pub follows : (b : RecordBoard S R) (d : Board S) (c : Call S) → Shows b d → Follows b d c
   unfolding record-call call step speak
-  follows b d (fed s) w =
+  follows b d (sensed s) w =
       record {
         same-bytes = refl;
         on = record { same-store = ap (λ (g : P .Store). P .sampled g s) (w .same-store); same-lines = w .same-lines; good = K .sample-good (b .store) s (w .good); whole = w .whole };
@@ -109,7 +109,7 @@ module _ (S : Setup) (R : Keeping (S .gauge .Key)) (K : Keeps S R) where
       t′ : R .Record
       t′ = R .lay (b .records l) (S .speech l .ask m) (left (s .after))
 
-      again : Again S R (K .Good) (K .Whole) l (b .store) (b .records l) m
+      again : Again S R Good Whole l (b .store) (b .records l) m
       again = K .again l (b .store) (b .records l) m (w .good) (w .whole l)
 
       e : s ≡ served-on S d l (S .speech l .ask m)
@@ -148,11 +148,11 @@ module _ (S : Setup) (R : Keeping (S .gauge .Key)) (K : Keeps S R) where
     subst (λ (y : Served P). Spares (y .after)) (same-served b d w l m) (spares ((on-record P R (S .speech l) (b .store) (b .records l) m) .after) (n .0)),
     no-reset-calm cs ((record-call S R b (heard l m)) .0) ((call S d (heard l m)) .0) ((follows b d (heard l m) w) .on) (n .1),
   )
-  no-reset-calm (fed s ∷ cs) b d w n = no-reset-calm cs ((record-call S R b (fed s)) .0) ((call S d (fed s)) .0) ((follows b d (fed s) w) .on) n
+  no-reset-calm (sensed s ∷ cs) b d w n = no-reset-calm cs ((record-call S R b (sensed s)) .0) ((call S d (sensed s)) .0) ((follows b d (sensed s) w) .on) n
 
   module _ (clear : Clear S) where
     -- THEOREM: demand 3, of the board with its records, for every list of calls from any good store with no transfer under way
-    pub demand3-records : (g : P .Store) → K .Good g → (cs : List (Call S)) → Demand3Records S R g cs
+    pub demand3-records : (g : P .Store) → Good g → (cs : List (Call S)) → Demand3Records S R g cs
     demand3-records g ok cs =
         let d : SerialBytes S g cs = serial-bytes S clear g cs in
         let w : Shows (record-start S R g) (start S g) = shows-start g ok in

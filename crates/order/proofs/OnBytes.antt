@@ -6,14 +6,14 @@ use Rattle.order.specs.Gauge.{end-of}
 use Rattle.order.specs.Serve.{Setup, Board, step, trace, run}
 use Rattle.order.specs.Observe.{Done, Pairs, observe, fresh}
 use Rattle.order.specs.Promise.{ops-of, start, done-in, Serial}
-use Rattle.order.specs.Bytes.{Call, heard, fed, meant, answered, call, talk, after-all, understood, reads, client, SerialBytes, Clear}
+use Rattle.order.specs.Bytes.{Call, heard, sensed, meant, answer-bytes, call, talk, after-all, understood, reads, client, SerialBytes, Clear}
 use Rattle.order.proofs.Serial.{serial}
 
 module _ (S : Setup) (clear : Clear S) where
-  understands : (b : Board S) (c : Call S) → understood S c (answered S c ((step S b (meant S c)) .1)) ≡ (step S b (meant S c)) .1
+  understands : (b : Board S) (c : Call S) → understood S c (answer-bytes S c ((step S b (meant S c)) .1)) ≡ (step S b (meant S c)) .1
   unfolding step
   understands b (heard l m) = clear l m (b .store) (S .wires .at (b .lines) l) (S .speech l .ask m)
-  understands b (fed s) = refl
+  understands b (sensed s) = refl
 
   pub decoded : (cs : List (Call S)) (b : Board S) → map (reads S) (talk S b cs) ≡ trace S b (map (meant S) cs)
   unfolding talk call trace

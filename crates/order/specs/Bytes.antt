@@ -12,19 +12,19 @@ module _ (S : Setup) where
   -- what the board's calls are given: a line and a message's bytes, or a sample
   pub data Call : Type 0 where
     heard : S .wires .Line → List ℕ → Call
-    fed : S .gauge .Sample → Call
+    sensed : S .gauge .Sample → Call
 
   abbrev pub meant : Call → Event S
   meant (heard l m) = message l (S .speech l .ask m)
-  meant (fed s) = sample s
+  meant (sensed s) = sample s
 
-  abbrev pub answered : Call → Answer (S .gauge .Name) → List ℕ
-  answered (heard l m) t = S .speech l .answer m t
-  answered (fed s) t = []
+  abbrev pub answer-bytes : Call → Answer (S .gauge .Name) → List ℕ
+  answer-bytes (heard l m) t = S .speech l .answer m t
+  answer-bytes (sensed s) t = []
 
   -- THE BOARD ON BYTES
   unfoldable pub call : Board S → Call → Board S × List ℕ
-  call b c = ((step S b (meant c)) .0, answered c ((step S b (meant c)) .1))
+  call b c = ((step S b (meant c)) .0, answer-bytes c ((step S b (meant c)) .1))
 
   -- calls and their answers, in order
   unfoldable pub talk : Board S → List Call → List (Call × List ℕ)
@@ -37,7 +37,7 @@ module _ (S : Setup) where
 
   abbrev pub understood : Call → List ℕ → Answer (S .gauge .Name)
   understood (heard l m) a = S .speech l .tell m a
-  understood (fed s) a = silent
+  understood (sensed s) a = silent
 
   abbrev pub reads : Call × List ℕ → Event S × Answer (S .gauge .Name)
   reads p = (meant (p .0), understood (p .0) (p .1))

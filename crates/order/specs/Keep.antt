@@ -11,7 +11,7 @@ use Rattle.order.specs.Gauge.{Gauge, results, end-of}
 use Rattle.order.specs.Serve.{Speech, put-at, Setup, After, kept, wiped, left, Served, serve}
 use Rattle.order.specs.Observe.{Done, follow}
 use Rattle.order.specs.Promise.{ops-of, got-of, Right, count}
-use Rattle.order.specs.Bytes.{Call, heard, fed, meant, reads, client}
+use Rattle.order.specs.Bytes.{Call, heard, sensed, meant, reads, client}
 
 -- how a transfer is kept: the record of none, the transfer that a record stands for, and the record after a request, which is laid
 -- over the one before
@@ -60,7 +60,7 @@ module _ (S : Setup) (R : Keeping (S .gauge .Key)) where
   -- ONE CALL
   unfoldable pub record-call : RecordBoard → Call S → RecordBoard × List ℕ
   record-call b (heard l m) = (record { store = (spoken-on b l m) .store; records = records-after (b .records) l (spoken-on b l m) }, (spoken-on b l m) .bytes)
-  record-call b (fed s) = (record { store = S .gauge .sampled (b .store) s; records = b .records }, [])
+  record-call b (sensed s) = (record { store = S .gauge .sampled (b .store) s; records = b .records }, [])
 
   unfoldable pub record-talk : RecordBoard → List (Call S) → List (Call S × List ℕ)
   record-talk b [] = []
@@ -87,7 +87,7 @@ module _ (S : Setup) (R : Keeping (S .gauge .Key)) where
   abbrev pub NoReset : RecordBoard → List (Call S) → Type 0
   NoReset b [] = Unit {0}
   NoReset b (heard l m ∷ cs) = ((spoken-on b l m) .reset ≡ false) × NoReset ((record-call b (heard l m)) .0) cs
-  NoReset b (fed s ∷ cs) = NoReset ((record-call b (fed s)) .0) cs
+  NoReset b (sensed s ∷ cs) = NoReset ((record-call b (sensed s)) .0) cs
 
   -- l's own messages among these calls ask for parts with right toggles, which start at 0 (R6.3), and no device reset is done
   pub record RecordParts (l : S .wires .Line) (b : RecordBoard) (cs : List (Call S)) : Type 0 where
@@ -105,16 +105,16 @@ module _ (S : Setup) (R : Keeping (S .gauge .Key)) where
 
   -- ---- what is asked of a keeping
 
-  -- what a message leaves is seen again in the record that is kept; `Good` is asked of the store, `Whole` of a record
-  pub record Again (Good : S .gauge .Store → Type 0) (Whole : R .Record → Type 0) (l : S .wires .Line) (g : S .gauge .Store) (t : R .Record) (m : List ℕ) : Type 0 where
-    pub good : Good ((speak (S .gauge) R (S .speech l) g t m) .store)
-    pub whole : Whole ((speak (S .gauge) R (S .speech l) g t m) .next)
-    pub seen : R .view ((speak (S .gauge) R (S .speech l) g t m) .next) ≡ left ((serve (S .gauge) (S .speech l .form) g (R .view t) (S .speech l .ask m)) .after)
+  -- `Good` is asked of the store, `Whole` of a record
+  module _ (Good : S .gauge .Store → Type 0) (Whole : R .Record → Type 0) where
+    -- what a message leaves is seen again in the record that is kept
+    pub record Again (l : S .wires .Line) (g : S .gauge .Store) (t : R .Record) (m : List ℕ) : Type 0 where
+      pub good : Good ((speak (S .gauge) R (S .speech l) g t m) .store)
+      pub whole : Whole ((speak (S .gauge) R (S .speech l) g t m) .next)
+      pub seen : R .view ((speak (S .gauge) R (S .speech l) g t m) .next) ≡ left ((serve (S .gauge) (S .speech l .form) g (R .view t) (S .speech l .ask m)) .after)
 
-  pub record Keeps : Type 1 where
-    pub Good : S .gauge .Store → Type 0
-    pub Whole : R .Record → Type 0
-    pub empty-whole : Whole (R .empty)
-    pub empty-idle : R .view (R .empty) ≡ idle
-    pub again : (l : S .wires .Line) (g : S .gauge .Store) (t : R .Record) (m : List ℕ) → Good g → Whole t → Again Good Whole l g t m
-    pub sample-good : (g : S .gauge .Store) (s : S .gauge .Sample) → Good g → Good (S .gauge .sampled g s)
+    pub record Keeps : Type 0 where
+      pub empty-whole : Whole (R .empty)
+      pub empty-idle : R .view (R .empty) ≡ idle
+      pub again : (l : S .wires .Line) (g : S .gauge .Store) (t : R .Record) (m : List ℕ) → Good g → Whole t → Again l g t m
+      pub sample-good : (g : S .gauge .Store) (s : S .gauge .Sample) → Good g → Good (S .gauge .sampled g s)

@@ -23,7 +23,7 @@ pub data Request (K : Type 0) : Type 0 where
   unknown : Request K
 
 -- `opened` answers the opening of a read: name, length, the bytes that it carries, whether these are all. `part-given` is a part
--- of a read, `write-opened` is 60 and `part-taken` 20 or 30. `refused` gives a code from 06020000 on. A code before it only drops a
+-- of a read, `write-opened` is 60 and `part-taken` 20 or 30. `refused` gives a code from 06020000 on, in the order of R7. One before it only drops a
 -- transfer (R15.5): `dropped` tells it with the transfer's name, `no-transfer` is 05040001, which has none. `silent`: no answer
 pub data Answer (N : Type 0) : Type 0 where
   opened : N → ℕ → List ℕ → Bool → Answer N

@@ -4,6 +4,8 @@ use find::field;
 use io::print_decimal;
 use io::write_all;
 use libc::STDOUT_FILENO;
+use table::access;
+use table::kind;
 use wire::wide;
 ghost use mathlib.Core.Path.{_≡_};
 ghost use Prim.Native.Nat.{_≤_, _<_};
@@ -35,14 +37,14 @@ fn print_hex(v: u64, digits: usize)
 
 fn print_kind(kind: u8) {
     match kind {
-        0 => write_all(STDOUT_FILENO, b" BOOL "),
-        1 => write_all(STDOUT_FILENO, b" USINT "),
-        2 => write_all(STDOUT_FILENO, b" UINT "),
-        3 => write_all(STDOUT_FILENO, b" UDINT "),
-        4 => write_all(STDOUT_FILENO, b" ULINT "),
-        5 => write_all(STDOUT_FILENO, b" REAL "),
-        6 => write_all(STDOUT_FILENO, b" STRING "),
-        7 => write_all(STDOUT_FILENO, b" CARD "),
+        kind::BOOL => write_all(STDOUT_FILENO, b" BOOL "),
+        kind::USINT => write_all(STDOUT_FILENO, b" USINT "),
+        kind::UINT => write_all(STDOUT_FILENO, b" UINT "),
+        kind::UDINT => write_all(STDOUT_FILENO, b" UDINT "),
+        kind::ULINT => write_all(STDOUT_FILENO, b" ULINT "),
+        kind::REAL => write_all(STDOUT_FILENO, b" REAL "),
+        kind::STRING => write_all(STDOUT_FILENO, b" STRING "),
+        kind::CARD => write_all(STDOUT_FILENO, b" CARD "),
         _ => write_all(STDOUT_FILENO, b" COMMAND "),
     }
     ;
@@ -50,8 +52,8 @@ fn print_kind(kind: u8) {
 
 fn print_access(access: u8, nv: u8) {
     match access {
-        1 => write_all(STDOUT_FILENO, b"RO"),
-        2 => write_all(STDOUT_FILENO, b"WO"),
+        access::RO => write_all(STDOUT_FILENO, b"RO"),
+        access::WO => write_all(STDOUT_FILENO, b"WO"),
         _ => write_all(STDOUT_FILENO, b"RW"),
     }
     ;
@@ -65,7 +67,7 @@ fn print_access(access: u8, nv: u8) {
 // The number at a place in the order of its type: a REAL's bit pattern.
 fn number_at(kind: u8, rank: u32) -> u64 {
     let place = wide::word_to_u64(rank);
-    if kind != 5 {
+    if kind != kind::REAL {
         return place;
     }
     if place < 2147483648 {
@@ -78,7 +80,7 @@ fn number_at(kind: u8, rank: u32) -> u64 {
 fn print_limits(row: usize, kind: u8, digits: usize)
     requires { ⌜ (row < row-count) × (kind ≡ at-row row .kind) × (digits ≤ 16) ⌝ }
 {
-    if kind == 4 {
+    if kind == kind::ULINT {
         write_all(STDOUT_FILENO, b" 0000000000000000 FFFFFFFFFFFFFFFF ");
         return;
     }
@@ -122,12 +124,12 @@ fn print_extent(row: usize, kind: u8)
     let len = field::len_of(row);
     print_decimal(STDOUT_FILENO, len as u64);
     write_all(STDOUT_FILENO, b" ");
-    if kind < 7 {
+    if kind < kind::CARD {
         print_decimal(STDOUT_FILENO, field::place_of(row) as u64);
     } else {
         write_all(STDOUT_FILENO, b"-");
     }
-    if kind < 6 {
+    if kind < kind::STRING {
         print_number(row, kind, len);
     } else {
         write_all(STDOUT_FILENO, b" - - -\n");

@@ -19,21 +19,21 @@ use Rattle.sdo.proofs.Facts.{short-bounds}
 use Rattle.sdo.proofs.RoundTrip.{round, answer-eight}
 
 long-code : Code too-long
-long-code = record { fits = omega arith; from = omega arith }
+long-code = record { fits = omega arith; not-transfer = refl; ends = refl }
 
 short-code : Code too-short
-short-code = record { fits = omega arith; from = omega arith }
+short-code = record { fits = omega arith; not-transfer = refl; ends = refl }
 
 drop-code : DropCode toggle-code
-drop-code = record { before = omega arith; not-transfer = refl }
+drop-code = record { fits = omega arith; not-transfer = refl; drops = refl }
 
 -- a refused write has a code, and so has an entry that is closed
-unfoldable Coded : {S : Type 0} → Outcome S → Type 0
+unfoldable pub Coded : {S : Type 0} → Outcome S → Type 0
 Coded (stored g) = Unit {0}
 Coded (restarted g) = Unit {0}
 Coded (declined c) = Code c
 
-unfoldable CodedSizes : Sizes → Type 0
+unfoldable pub CodedSizes : Sizes → Type 0
 CodedSizes (sizes low high) = Unit {0}
 CodedSizes (closed c) = Code c
 

@@ -8,7 +8,6 @@ use mathlib.Core.List.{List, [], _∷_, _++_}
 use lib.Dec.{eqb}
 use lib.ListN.{length, take, getD, replicate, length-append, length-replicate}
 use lib.Seq.{take-at}
-use borrow.Author.Tests.{ne-eqb, lt-ltb, le-ltb}
 use Rattle.wire.specs.Little.{little, fromLittle, number}
 use Rattle.wire.proofs.LittleLaws.{byte-split, from-little}
 use Rattle.order.specs.Talk.{Answer, opened, part-given, write-opened, part-taken, refused, dropped, no-transfer, silent}
@@ -66,9 +65,9 @@ round (write-opened k) h = rw (byte-split (k .index))
 round (part-taken true) h = refl
 round (part-taken false) h = refl
 round (refused k c) h =
-    rw (byte-split (k .index), number-back 0x80 (k .index % 256) (k .index / 256) (k .sub) c (h .fits), ne-eqb c transfer-code (λ e. absurd (omega (arith, e, h .from))), le-ltb c 0x06020000 (h .from))
+    rw (byte-split (k .index), number-back 0x80 (k .index % 256) (k .index / 256) (k .sub) c (h .fits), h .not-transfer, h .ends)
 round (dropped k c) h =
-    rw (byte-split (k .index), number-back 0x80 (k .index % 256) (k .index / 256) (k .sub) c (omega (arith, h .before)), h .not-transfer, lt-ltb c 0x06020000 (h .before))
+    rw (byte-split (k .index), number-back 0x80 (k .index % 256) (k .index / 256) (k .sub) c (h .fits), h .not-transfer, h .drops)
 round no-transfer h = rw (number-back 0x80 0 0 0 transfer-code (omega arith))
 round silent h = refl
 

@@ -7,11 +7,11 @@ use native.Mathlib.Nat.{le-refl}
 use mathlib.Core.Bool.{Bool, true, false, cond, _&&_}
 use mathlib.Core.List.{List, [], _∷_, _++_}
 use mathlib.Core.Option.{none, some}
-use lib.Dec.{T, eqb, leb, ltb}
+use lib.Dec.{T, eqb, leb}
 use lib.ListN.{length, take, drop, getD, replicate}
 use Rattle.wire.specs.Little.{little, number}
 use Rattle.order.specs.Talk.{announced, own, Request, open-read, next-part, expedited, open-write, send-part, give-up, unknown, Answer, opened, part-given, write-opened, part-taken, refused, dropped, no-transfer, silent}
-use Rattle.order.specs.Serve.{Form, Speech}
+use Rattle.order.specs.Serve.{Form, Speech, toggle-code}
 use Rattle.sdo.specs.declared.Key.{Key}
 use Rattle.sdo.specs.declared.Opening.{Opening}
 use Rattle.sdo.specs.declared.Opening.the-variants.{Value, Own, Announced, Unsaid}
@@ -103,9 +103,12 @@ answer-of (dropped k c) = 0x80 ∷ key-bytes k ++ little 4 c
 answer-of no-transfer = 0x80 ∷ replicate 3 0 ++ little 4 transfer-code
 answer-of silent = []
 
--- THE CLIENT'S READING. A code tells which abort it is
+-- THE CLIENT'S READING. A code tells which abort it is: beside 05040001, which has no entry, these only drop a transfer (R15.5)
+abbrev pub only-drops : ℕ → Bool
+only-drops c = eqb c toggle-code
+
 unfoldable pub abort-of : Key → ℕ → Answer Key
-abort-of k c = cond (eqb c transfer-code) no-transfer (cond (ltb c 0x06020000) (dropped k c) (refused k c))
+abort-of k c = cond (eqb c transfer-code) no-transfer (cond (only-drops c) (dropped k c) (refused k c))
 
 unfoldable pub tell-of : List ℕ → Answer Key
 unfolding choice abort-of
@@ -120,14 +123,16 @@ tell-of (b ∷ rest) =
     (abort-of (key-of a) (number a 4 4))
     silent
 
--- a code that four bytes hold, from 06020000 on; one before it that is not 05040001
+-- a code that four bytes hold: one that ends an operation, and one that only drops a transfer
 pub record Code (c : ℕ) : Type 0 where
   pub fits : c < 0x1_0000_0000
-  pub from : 0x06020000 ≤ c
+  pub not-transfer : eqb c transfer-code ≡ false
+  pub ends : only-drops c ≡ false
 
 pub record DropCode (c : ℕ) : Type 0 where
-  pub before : c < 0x06020000
+  pub fits : c < 0x1_0000_0000
   pub not-transfer : eqb c transfer-code ≡ false
+  pub drops : only-drops c ≡ true
 
 -- the answers that eight bytes carry
 abbrev pub Carried : Answer Key → Type 0

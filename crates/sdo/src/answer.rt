@@ -8,6 +8,9 @@ ghost use lib.ListN.{length, take, drop, getD};
 ghost use Rattle.order.specs.Talk.{opened, part-given, write-opened, part-taken, refused, no-transfer};
 ghost use Rattle.sdo.specs.Eight.{one, answer-of, short};
 
+// The code of a wrong toggle.
+pub const WRONG_TOGGLE: u32 = 0x05030000;
+
 pub fn abort(k: Key, code: u32) -> [u8; 8]
     ensures { λ r. ⌜ r ≡ answer-of (refused k code) ⌝ }
 {

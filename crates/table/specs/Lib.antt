@@ -1,3 +1,4 @@
+pub mod Codes
 pub mod Row
 pub mod Rows
 pub mod Walk

@@ -21,7 +21,7 @@ use Rattle.transfer.specs.declared.Transfer.{Transfer}
 use Rattle.transfer.specs.Records.{zero-record, row-of, RowOf, counts, view, base, lay, transfers, GoodAfter, Rows}
 use Rattle.transfer.proofs.RecordLaws.{Fits, row-fits, fits-row, Valid, view-zero, view-lay, Whole, valid-view, whole-lay, whole-base, lay-served}
 
-module _ (E : Entries) (R : Rows E) where
+module _ (E : Entries) {Good : E .Store → Type 0} (R : Rows E Good) where
   abbrev P : Gauge
   P = gauge E
 
@@ -59,7 +59,7 @@ module _ (E : Entries) (R : Rows E) where
     valid-cond row true r r′ h h′ = h
     valid-cond row false r r′ h h′ = h′ tt
 
-    valid-read-opening : (g : E .Store) (k : Key) (r : Read) → R .Good g → E .read-whole g k ≡ r → Valid (row-of k) ((read-opening P F k r) .next)
+    valid-read-opening : (g : E .Store) (k : Key) (r : Read) → Good g → E .read-whole g k ≡ r → Valid (row-of k) ((read-opening P F k r) .next)
     unfolding read-opening
     valid-read-opening g k (value bytes) ok e =
         valid-cond (row-of k) (F .closes (length bytes)) _ _ tt
@@ -113,7 +113,7 @@ module _ (E : Entries) (R : Rows E) where
         go true = valid-part row g k low high (length sent) (sent ++ bytes) (not t) last (part-taken t) (v .0) (v .1)
         go false = tt
 
-    valid-serve : (g : E .Store) (t : Transfer) (x : Pending Key) (a : Request Key) → R .Good g → Valid (t .row) x → Valid ((base t a) .row) (left ((serve P F g x a) .after))
+    valid-serve : (g : E .Store) (t : Transfer) (x : Pending Key) (a : Request Key) → Good g → Valid (t .row) x → Valid ((base t a) .row) (left ((serve P F g x a) .after))
     unfolding serve base
     valid-serve g t x (open-read k) ok v = valid-read-opening g k (E .read-whole g k) ok refl
     valid-serve g t x (next-part u) ok v = valid-read-part (t .row) x u v
@@ -125,12 +125,12 @@ module _ (E : Entries) (R : Rows E) where
 
     -- ---- a message leaves a good store
 
-    good-judged : (g : E .Store) (k : Key) (low high : ℕ) (bytes : List ℕ) → R .Good g → low ≡ high → RowOf Writes k high → GoodAfter E (R .Good) (judged P g k low high bytes)
+    good-judged : (g : E .Store) (k : Key) (low high : ℕ) (bytes : List ℕ) → Good g → low ≡ high → RowOf Writes k high → GoodAfter E Good (judged P g k low high bytes)
     unfolding judged
     good-judged g k low high bytes ok e r = go (ltb high (length bytes)) (ltb (length bytes) low) (nltb→le high (length bytes)) (nltb→le (length bytes) low)
       where
         go : (d c : Bool) → (T (not d) → length bytes ≤ high) → (T (not c) → low ≤ length bytes)
-            → GoodAfter E (R .Good) (cond d (declined too-long) (cond c (declined too-short) (E .commit g k bytes)))
+            → GoodAfter E Good (cond d (declined too-long) (cond c (declined too-short) (E .commit g k bytes)))
         go true c p q = tt
         go false true p q = tt
         go false false p q =
@@ -139,34 +139,34 @@ module _ (E : Entries) (R : Rows E) where
             let m : length bytes ≡ high = omega (arith, e) in
             R .commit-good g k bytes ok (rw m r)
 
-    good-whole : (g : E .Store) (k : Key) (s : Said) (bytes : List ℕ) (z : Sizes) → R .Good g → SizedFor k z → GoodAfter E (R .Good) (judged-by P g k s bytes z)
+    good-whole : (g : E .Store) (k : Key) (s : Said) (bytes : List ℕ) (z : Sizes) → Good g → SizedFor k z → GoodAfter E Good (judged-by P g k s bytes z)
     unfolding SizedFor judged-by
     good-whole g k s bytes (sizes low high) ok h = good-judged g k low high (counted s high bytes) ok (h .0) (h .1)
     good-whole g k s bytes (closed c) ok h = tt
 
-    good-conclude : (g : E .Store) (k : Key) (y : Answer Key) (r : Outcome (E .Store)) → R .Good g → GoodAfter E (R .Good) r → R .Good ((conclude P g k y r) .store)
+    good-conclude : (g : E .Store) (k : Key) (y : Answer Key) (r : Outcome (E .Store)) → Good g → GoodAfter E Good r → Good ((conclude P g k y r) .store)
     unfolding conclude
     good-conclude g k y (stored g′) ok h = h
     good-conclude g k y (restarted g′) ok h = h
     good-conclude g k y (declined c) ok h = ok
 
-    good-part : (g : E .Store) (k : Key) (low high : ℕ) (all : List ℕ) (t last : Bool) (y : Answer Key) → R .Good g → low ≡ high → RowOf Writes k high
-        → R .Good ((take-part P g k low high all t last y) .store)
+    good-part : (g : E .Store) (k : Key) (low high : ℕ) (all : List ℕ) (t last : Bool) (y : Answer Key) → Good g → low ≡ high → RowOf Writes k high
+        → Good ((take-part P g k low high all t last y) .store)
     unfolding take-part
     good-part g k low high all t true y ok e r = good-conclude g k y (judged P g k low high all) ok (good-judged g k low high all ok e r)
     good-part g k low high all t false y ok e r = ok
 
-    good-write-part : (row : ℕ) (g : E .Store) (x : Pending Key) (u : Bool) (bytes : List ℕ) (last : Bool) → R .Good g → Valid row x → R .Good ((write-part P g x u bytes last) .store)
+    good-write-part : (row : ℕ) (g : E .Store) (x : Pending Key) (u : Bool) (bytes : List ℕ) (last : Bool) → Good g → Valid row x → Good ((write-part P g x u bytes last) .store)
     unfolding write-part
     good-write-part row g idle u bytes last ok v = ok
     good-write-part row g (reading k held place t) u bytes last ok v = ok
     good-write-part row g (writing k low high sent t) u bytes last ok v = go (Bool·beq t u)
       where
-        go : (d : Bool) → R .Good ((cond d (take-part P g k low high (sent ++ bytes) (not t) last (part-taken t)) (keeping P g (over P (dropped k toggle-code)))) .store)
+        go : (d : Bool) → Good ((cond d (take-part P g k low high (sent ++ bytes) (not t) last (part-taken t)) (keeping P g (over P (dropped k toggle-code)))) .store)
         go true = good-part g k low high (sent ++ bytes) (not t) last (part-taken t) ok (v .0) (fits-row Writes row k high (length sent) (v .1))
         go false = ok
 
-    good-serve : (row : ℕ) (g : E .Store) (x : Pending Key) (a : Request Key) → R .Good g → Valid row x → R .Good ((serve P F g x a) .store)
+    good-serve : (row : ℕ) (g : E .Store) (x : Pending Key) (a : Request Key) → Good g → Valid row x → Good ((serve P F g x a) .store)
     unfolding serve write-whole
     good-serve row g x (open-read k) ok v = ok
     good-serve row g x (next-part u) ok v = ok
@@ -179,7 +179,7 @@ module _ (E : Entries) (R : Rows E) where
 
   -- ---- one message on a line
 
-  module _ (g : E .Store) (ok : R .Good g) (t : Transfer) (m : List ℕ) (w : Whole t) where
+  module _ (g : E .Store) (ok : Good g) (t : Transfer) (m : List ℕ) (w : Whole t) where
     leaves : Valid ((base t (ask-of m)) .row) (left ((serve P eight g (view t) (ask-of m)) .after))
     leaves = valid-serve eight g t (view t) (ask-of m) ok (valid-view t w)
 
@@ -188,7 +188,7 @@ module _ (E : Entries) (R : Rows E) where
     unfolding speak
     next-served = lay-served (base t (ask-of m)) _ leaves
 
-    again : (l : Line) → Again (two-lines E) transfers (R .Good) Whole l g t m
+    again : (l : Line) → Again (two-lines E) transfers (Good) Whole l g t m
     unfolding speak
     again l =
         record {
@@ -198,11 +198,9 @@ module _ (E : Entries) (R : Rows E) where
         }
 
   -- THE INSTANCE
-  pub keeps : Keeps (two-lines E) transfers
+  pub keeps : Keeps (two-lines E) transfers Good Whole
   keeps =
       record {
-        Good = R .Good;
-        Whole = Whole;
         empty-whole = refl;
         empty-idle = view-zero;
         again = λ l g t m ok w. again g ok t m w l;

@@ -91,18 +91,18 @@ lay t (writing k low high sent toggle) =
 abbrev pub transfers : Keeping Key
 transfers = record { Record = Transfer; empty = zero-record; view = view; lay = λ t a x. lay (base t a) x }
 
-module _ (E : Entries) where
-  -- the store that an accepted write leaves is one of these
-  abbrev pub GoodAfter : (E .Store → Type 0) → Outcome (E .Store) → Type 0
-  GoodAfter Good (stored g) = Good g
-  GoodAfter Good (restarted g) = Good g
-  GoodAfter Good (declined c) = Unit {0}
+-- `Good` is what is asked of the store: its bytes are as many as the table has places for
+module _ (E : Entries) (Good : E .Store → Type 0) where
+  -- the store that an accepted write leaves is good
+  abbrev pub GoodAfter : Outcome (E .Store) → Type 0
+  GoodAfter (stored g) = Good g
+  GoodAfter (restarted g) = Good g
+  GoodAfter (declined c) = Unit {0}
 
   -- what is asked of the entries: a value that is read, and an entry that may be written, have a row that allows it and the row's length.
-  -- `Good` is what is asked of the store (its bytes are as many as the table has places for); whole writes of the row's length and samples keep it
-  pub record Rows : Type 1 where
-    pub Good : E .Store → Type 0
+  -- Whole writes of the row's length and samples keep the store good
+  pub record Rows : Type 0 where
     pub read-row : (g : E .Store) (k : Key) (bytes : List ℕ) → Good g → E .read-whole g k ≡ value bytes → RowOf Reads k (length bytes)
     pub write-row : (k : Key) (low high : ℕ) → E .write-sizes k ≡ sizes low high → (low ≡ high) × RowOf Writes k high
-    pub commit-good : (g : E .Store) (k : Key) (bytes : List ℕ) → Good g → RowOf Writes k (length bytes) → GoodAfter Good (E .commit g k bytes)
+    pub commit-good : (g : E .Store) (k : Key) (bytes : List ℕ) → Good g → RowOf Writes k (length bytes) → GoodAfter (E .commit g k bytes)
     pub sample-good : (g : E .Store) (s : E .Sample) → Good g → Good (E .sampled g s)

@@ -4,7 +4,7 @@ use Prim.Native.Nat.{ℕ, _+_, _*_, _/_, _%_}
 use native.Mathlib.Omega.{arith}
 use borrow.Author.Needs.{needs}
 use Rattle.table.specs.Find.{find-row}
-use Rattle.find.specs.Search.{with-shape}
+use Rattle.find.specs.Search.{gate-by}
 use Rattle.find.proofs.find.Statement.{statement}
 use Rattle.find.proofs.find.Tie as tie
 
@@ -26,7 +26,7 @@ returns c =
     let k = s .args .index * 256 + c .before .to-u32 .result in
     let i : k / 256 ≡ s .args .index = omega (arith, c .before .to-u32 .ensures) in
     let b : k % 256 ≡ s .args .sub = omega (arith, c .before .to-u32 .ensures) in
-    c .find-key .ensures ∙ ap (λ (n : ℕ). with-shape (find-row n (k % 256))) i ∙ ap (λ (n : ℕ). with-shape (find-row (s .args .index) n)) b
+    c .find-key .ensures ∙ ap (λ (n : ℕ). gate-by (find-row n (k % 256))) i ∙ ap (λ (n : ℕ). gate-by (find-row (s .args .index) n)) b
 
 pub find-spec : {M : Type 1} → statement M
 find-spec = tie.close (tie.spec mul-find-key to-u32-requires add-find-key find-key-requires returns)

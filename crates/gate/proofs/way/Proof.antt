@@ -1,6 +1,6 @@
 -- `gate::way`: each return is one law, given what the calls ensure. Assumes nothing.
 use borrow.Author.Needs.{needs}
-use Rattle.gate.proofs.GateLaws.{barred-row, open-row, no-index, no-sub}
+use Rattle.gate.proofs.GateLaws.{barred-row, allowed-row, stays-shut}
 use Rattle.gate.proofs.way.Statement.{statement}
 use Rattle.gate.proofs.way.Tie as tie
 
@@ -19,27 +19,20 @@ returns c =
     let s = f .before .before .before in
     barred-row (s .args .barred) (s .args .code) (s .args .index) (s .args .sub) (f .before .before .find .ensures) (f .found .given .0 .0) (f .found .given .0 .1 .0) (c .before .access-in .result) (f .found .given .1) (c .before .access-in .ensures) (c .if1 .taken)
 
-enum-told : tie.Need-enum-told
-enum-told c = search needs
-
-enum-told-2 : tie.Need-enum-told-2
-enum-told-2 c = search needs
+enum-known-found-2 : tie.Need-enum-known-found-2
+enum-known-found-2 c = search needs
 
 returns-2 : tie.Need-returns-2
 returns-2 c =
     let f = c .before .before .before in
     let s = f .before .before .before in
-    open-row (s .args .barred) (s .args .code) (s .args .index) (s .args .sub) (f .before .before .find .ensures) (f .found .given .0 .0) (f .found .given .0 .1 .0) (c .before .access-in .result) (f .found .given .1) (c .before .access-in .ensures) (c .if1 .left)
+    allowed-row (s .args .barred) (s .args .code) (s .args .index) (s .args .sub) (f .before .before .find .ensures) (f .found .given .0 .0) (f .found .given .0 .1 .0) (c .before .access-in .result) (f .found .given .1) (c .before .access-in .ensures) (c .if1 .left)
 
 returns-3 : tie.Need-returns-3
 returns-3 c =
-    let s = c .before .before .before in
-    no-index (s .args .barred) (s .args .code) (s .args .index) (s .args .sub) (c .before .before .find .ensures) (c .enum-told .given .1)
-
-returns-4 : tie.Need-returns-4
-returns-4 c =
-    let s = c .before .before .before in
-    no-sub (s .args .barred) (s .args .code) (s .args .index) (s .args .sub) (c .before .before .find .ensures) (c .enum-told2 .given .1)
+    let f = c .before in
+    let s = f .before .before .before in
+    stays-shut (s .args .barred) (s .args .code) (s .args .index) (s .args .sub) (f .before .before .find .ensures) _ (f .found2 .given .1)
 
 pub way-spec : {M : Type 1} → statement M
 way-spec =
@@ -49,8 +42,6 @@ way-spec =
     enum-known-found
     access-in-requires
     returns
-    enum-told
-    enum-told-2
+    enum-known-found-2
     returns-2
-    returns-3
-    returns-4)
+    returns-3)

@@ -1,10 +1,9 @@
 -- `line::read::give_part`: each return is one law, given what the calls ensure. Assumes nothing.
-use mathlib.Core.Path.{_≡_, ap, _∙_}
+use mathlib.Core.Path.{_≡_}
 use native.Mathlib.Omega.{arith}
 use lib.ListN.{length}
-use Rattle.sdo.proofs.ReplyLaws.{given-last, given-more}
-use Rattle.line.specs.Answering.{replied}
 use borrow.Author.Needs.{needs}
+use Rattle.line.proofs.Reading.{given-last, given-more}
 use Rattle.line.proofs.read.give_part.Statement.{statement}
 use Rattle.line.proofs.read.give_part.Tie as tie
 
@@ -23,12 +22,17 @@ ended-requires c κs = search needs
 same-length : tie.Need-same-length
 same-length c = search needs
 
+same-length-2 : tie.Need-same-length-2
+same-length-2 c = search needs
+
 returns : tie.Need-returns
 returns c =
-    let s = c .before .before .before .before .before .before .before .before .before in
+    let s = c .before .before .before .before .before .before .before .before .before .before .before .before .before in
     let p = s .args .at in
     let o = s .args .state .now in
-    c .before .before .ended .ensures ∙ ap (replied p o) (given-last (s .args .t) (c .before .before .before .part-last .ensures) (c .before .before .before .before .before .before .if1 .taken))
+    let a = s .args .room .now in
+    let h : length (s .args .t .held) ≡ 64 = search needs in
+    given-last p o a (s .args .t) h (s .pre .1) (c .before .before .before .before .before .before .before .before .before .if1 .taken) (c .before .before .before .before .before .part-last .ensures) (c .before .before .before .before .ended .ensures)
 
 turned-requires : tie.Need-turned-requires
 turned-requires c κs = search needs
@@ -38,36 +42,27 @@ slice-aggregate-part-more c = search needs
 
 part-more-requires : tie.Need-part-more-requires
 part-more-requires c κs =
-    let s = c .before .before .before .before .before .before in
+    let s = c .before .before .before .before .before .before .before .before in
     let h : length (s .args .t .held) ≡ 64 = search needs in
-    omega (arith, h, s .pre .1, c .before .before .before .if1 .left)
+    omega (arith, h, s .pre .1, c .before .before .before .before .if1 .left)
 
 going-requires : tie.Need-going-requires
 going-requires c κs = search needs
 
-same-length-2 : tie.Need-same-length-2
-same-length-2 c = search needs
+same-length-3 : tie.Need-same-length-3
+same-length-3 c = search needs
+
+same-length-4 : tie.Need-same-length-4
+same-length-4 c = search needs
 
 returns-2 : tie.Need-returns-2
 returns-2 c =
-    let s = c .before .before .before .before .before .before .before .before .before .before in
+    let s = c .before .before .before .before .before .before .before .before .before .before .before .before .before .before in
     let p = s .args .at in
     let o = s .args .state .now in
-    c .before .before .going .ensures ∙ ap (replied p o) (given-more (s .args .t) (c .before .before .before .part-more .ensures) (c .before .before .before .before .before .turned .ensures) (c .before .before .before .before .before .before .before .if1 .left))
+    let a = s .args .room .now in
+    let h : length (s .args .t .held) ≡ 64 = search needs in
+    given-more p o a (s .args .t) h (s .pre .1) (c .before .before .before .before .before .before .before .before .before .before .if1 .left) (c .before .before .before .before .before .before .before .before .turned .ensures) (c .before .before .before .before .before .part-more .ensures) (c .before .before .before .before .going .ensures)
 
 pub give-part-spec : {M : Type 1} → statement M
-give-part-spec =
-    tie.close
-    (tie.spec
-    add-if1
-    slice-aggregate-part-last
-    part-last-requires
-    ended-requires
-    same-length
-    returns
-    turned-requires
-    slice-aggregate-part-more
-    part-more-requires
-    going-requires
-    same-length-2
-    returns-2)
+give-part-spec = tie.close (tie.spec add-if1 slice-aggregate-part-last part-last-requires ended-requires same-length same-length-2 returns turned-requires slice-aggregate-part-more part-more-requires going-requires same-length-3 same-length-4 returns-2)

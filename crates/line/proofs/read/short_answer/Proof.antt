@@ -13,7 +13,7 @@ use Rattle.table.proofs.Table.{row-rule, placed}
 use Rattle.table.proofs.Widths.{card-width}
 use Rattle.gauge.proofs.CommitLaws.{word-left, read-command}
 use Rattle.sdo.specs.Eight.{answer-of}
-use Rattle.line.proofs.Doors.{shown-whole, shown-part}
+use Rattle.line.proofs.Reading.{shown-whole, shown-part}
 use Rattle.line.proofs.read.short_answer.Statement.{statement}
 use Rattle.line.proofs.read.short_answer.Tie as tie
 

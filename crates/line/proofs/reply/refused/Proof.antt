@@ -1,10 +1,8 @@
 -- `line::reply::refused`: each return is one law, given what the calls ensure. Assumes nothing.
-use mathlib.Core.List.{List}
 use mathlib.Core.Path.{ap, _∙_}
-use Prim.Native.Nat.{ℕ}
 use borrow.Author.Needs.{needs}
-use Rattle.sdo.specs.Replies.{ending}
-use Rattle.line.specs.Answering.{replied}
+use Rattle.transfer.specs.Records.{zero-record}
+use Rattle.line.specs.Serving.{put-down}
 use Rattle.line.proofs.reply.refused.Statement.{statement}
 use Rattle.line.proofs.reply.refused.Tie as tie
 
@@ -17,12 +15,16 @@ ended-requires c κs = search needs
 same-length : tie.Need-same-length
 same-length c = search needs
 
+same-length-2 : tie.Need-same-length-2
+same-length-2 c = search needs
+
 returns : tie.Need-returns
 returns c =
-    let s = c .before .before .before .before .before .before in
+    let s = c .before .before .before .before .before .before .before .before .before .before in
     let p = s .args .at in
     let o = s .args .state .now in
-    c .before .before .ended .ensures ∙ ap (λ (e : List ℕ). replied p o (ending e)) (c .before .before .before .abort .ensures)
+    let a = s .args .room .now in
+    c .before .before .before .before .ended .ensures ∙ ap (put-down p o a zero-record) (c .before .before .before .before .before .abort .ensures)
 
 pub refused-spec : {M : Type 1} → statement M
-refused-spec = tie.close (tie.spec abort-requires ended-requires same-length returns)
+refused-spec = tie.close (tie.spec abort-requires ended-requires same-length same-length-2 returns)

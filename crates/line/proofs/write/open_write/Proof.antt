@@ -1,5 +1,5 @@
 -- `line::write::open_write`: by the gate. Assumes nothing.
-use Rattle.line.proofs.Speaking.{open-row, said-shut}
+use Rattle.line.proofs.Speaking.{write-led, said-shut}
 use borrow.Author.Needs.{needs}
 use Rattle.line.proofs.write.open_write.Statement.{statement}
 use Rattle.line.proofs.write.open_write.Tie as tie
@@ -14,7 +14,7 @@ open-on-requires : tie.Need-open-on-requires
 open-on-requires c κs =
     let s = c .before .before .before .before .before .before .before .before .before .before .before .before .before in
     let w = c .before .before .before .before .before .before .before .to-write .ensures in
-    (s .pre .0, open-row (s .args .k) (w .0) (c .before .before .before .before .before .gate .given .0 .0) (c .before .before .before .before .before .gate .given .0 .1 .0) (w .1) (c .before .before .before .before .before .gate .given .1), s .pre .1, s .pre .2)
+    (s .pre .0, write-led (s .args .k) (w .0) (c .before .before .before .before .before .gate .given .0 .0) (c .before .before .before .before .before .gate .given .0 .1 .0) (w .1) (c .before .before .before .before .before .gate .given .1), s .pre .1, s .pre .2)
 
 enum-known-gate-2 : tie.Need-enum-known-gate-2
 enum-known-gate-2 c = search needs
