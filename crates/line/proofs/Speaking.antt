@@ -3,22 +3,22 @@ use mathlib.Core.Path.{_≡_, refl, sym, ap, _∙_}
 use mathlib.Core.Bool.{Bool}
 use mathlib.Core.List.{List, []}
 use mathlib.Core.Option.{none, some}
-use Prim.Native.Nat.{ℕ, _<_}
+use Prim.Native.Nat.{ℕ}
 use lib.ListN.{take, drop}
 use borrow.Author.Tests.{ne-eqb}
 use Rattle.order.specs.Talk.{Said, announced, unsaid, own, open-read, next-part, expedited, open-write, send-part, unknown, write-opened, refused, no-transfer, Sizes, sizes, closed}
 use Rattle.order.specs.Gauge.{narrow, narrowed, judged-by, write-whole}
 use Rattle.order.specs.Serve.{Served, keeping, read-opening, read-part, write-opening, conclude, write-part, serve}
 use Rattle.table.specs.Row.{RO}
-use Rattle.table.specs.Rows.{row-count, at-row}
+use Rattle.table.specs.Rows.{at-row}
+use Rattle.table.specs.Codes.{read-only}
 use Rattle.table.specs.Find.{find-row}
 use Rattle.table.specs.declared.Found.the-variants.{At}
 use Rattle.table.proofs.Table.{find-at}
 use Rattle.find.specs.Columns.{shape}
-use Rattle.gate.specs.Codes.{read-only}
-use Rattle.gate.specs.Gates.{to-row, no-way, gate, write-gate, way-of, Shaped}
-use Rattle.gate.specs.declared.Gate.{Gate}
-use Rattle.gate.specs.declared.Gate.the-variants.{Open, Shut}
+use Rattle.find.specs.declared.Gate.{Gate}
+use Rattle.find.specs.declared.Gate.the-variants.{Open, Shut}
+use Rattle.gate.specs.Gates.{gate, write-gate, way-of, Shaped}
 use Rattle.gate.proofs.GateLaws.{opened, shaped}
 use Rattle.gauge.specs.Checks.{smallest, largest}
 use Rattle.gauge.specs.Whole.{read-checked, read-whole, write-sizes}
@@ -37,20 +37,20 @@ use Rattle.state.specs.State.{record-at}
 use Rattle.line.specs.Gauge.{plain, store-of}
 use Rattle.line.specs.Serving.{kept, put-down, replied, Told, told, told-by, spoken-over, message-told, Writable}
 use Rattle.line.proofs.Told.{kept-told, over-told, message-asks}
+use Rattle.line.proofs.Doors.{leads, stops}
 
 -- ---- what the gate says of an entry that is written
 
 module _ (k : Key) {g : Gate} (way : way-of g ≡ write-gate (find-row (k .index) (k .sub))) where
   -- it leads to the entry's row
-  pub open-row : (row sh : ℕ) → Shaped g → g ≡ Open row sh → Writable row × (find-row (k .index) (k .sub) ≡ At row) × (sh ≡ shape (at-row row))
-  unfolding way-of
-  open-row row sh h q =
-      let o = opened RO read-only (k .index) (k .sub) row (find-row (k .index) (k .sub)) refl (sym way ∙ ap way-of q) in
+  pub write-led : (row sh : ℕ) → Shaped g → g ≡ Open row sh → Writable row × (find-row (k .index) (k .sub) ≡ At row) × (sh ≡ shape (at-row row))
+  write-led row sh h q =
+      let o = opened RO read-only (k .index) (k .sub) row (find-row (k .index) (k .sub)) refl (leads RO read-only k way row sh q) in
       (record { there = find-at (k .index) (k .sub) row (o .found) .there; open-to-writes = o .allowed }, o .found, shaped row sh h q)
 
   shut-sizes : (code : ℕ) → g ≡ Shut code → write-sizes (k .index) (k .sub) ≡ closed code
-  unfolding way-of sizes-of
-  shut-sizes code q = sizes-by-gate (k .index) (k .sub) ∙ ap sizes-of (sym way ∙ ap way-of q)
+  unfolding sizes-of
+  shut-sizes code q = sizes-by-gate (k .index) (k .sub) ∙ ap sizes-of (stops RO read-only k way code q)
 
 -- ---- a message
 

@@ -7,7 +7,7 @@ use native.Mathlib.Omega.{arith}
 use lib.Dec.{ltb}
 use lib.ListN.{length, take, drop, replicate, length-take}
 use lib.Seq.{take-take}
-use borrow.Author.Tests.{ltb-false, lt-ltb, le-ltb, ne-eqb}
+use borrow.Author.Tests.{ltb-false, leb-true, lt-ltb, le-ltb, ne-eqb}
 use Rattle.wire.specs.Splice.{splice}
 use Rattle.wire.specs.Little.{little}
 use Rattle.wire.proofs.SpliceLaws.{splice-none, splice-again, part-length}
@@ -27,11 +27,12 @@ use Rattle.gauge.specs.declared.commit.Ending.the-variants.{Accepted, Restarted
 use Rattle.gauge.proofs.ByGate.{commit-through, commit-by-gate}
 use Rattle.sdo.specs.declared.Key.{Key}
 use Rattle.sdo.specs.Eight.{answer-of}
-use Rattle.transfer.specs.declared.Direction.the-variants.{Writes}
+use Rattle.transfer.specs.declared.Direction.{Direction}
+use Rattle.transfer.specs.declared.Direction.the-variants.{Neither, Reads, Writes}
 use Rattle.transfer.specs.declared.Transfer.{Transfer}
-use Rattle.transfer.specs.Records.{zero-record, zero-record-at, key-at, counts, view, lay}
+use Rattle.transfer.specs.Records.{zero-record, zero-record-at, key-at, allows, counts, view, lay}
 use Rattle.transfer.specs.Turns.{is-writing, opened-record, grown}
-use Rattle.transfer.proofs.RecordLaws.{view-writing, no-writing, sent-length, lay-writing, lay-begun}
+use Rattle.transfer.proofs.RecordLaws.{view-writing, no-writing, held-fits, sent-length, lay-writing, lay-begun}
 use Rattle.state.specs.State.{record-at, record-bytes, fresh-state, settled}
 use Rattle.line.specs.Gauge.{bag552, plain, store-of}
 use Rattle.line.specs.Serving.{Kept, kept, put-down, replied, Told, told, told-by, spoken-over, Writable}
@@ -61,6 +62,21 @@ module _ (low high n : ℕ) {fault : ℕ} (e : fault ≡ by-length low high n (�
 pub let-through : {A : Type 0} (low high n : ℕ) (refuse : ℕ → A) (pass : A) → low ≤ n → n ≤ high → by-length low high n refuse pass ≡ pass
 unfolding by-length
 let-through low high n refuse pass l h = rw (le-ltb high n h, le-ltb n low l)
+
+-- ---- a row that may be written
+
+pub row-most : {row len : ℕ} → Writable row → len ≡ at-row row .len → len ≤ 64
+row-most {row} w e = let most = row-rule row (w .there) .most in omega arith
+
+-- the row of a write that a record holds
+pub writing-row : (t : Transfer) → (is-writing (t .direction) && counts t) ≡ true → Writable (t .row)
+unfolding is-writing allows
+writing-row t e = let f = held-fits t (is-writing (t .direction)) e in record { there = f .there; open-to-writes = go (t .direction) e (f .allowed) }
+  where
+    go : (d : Direction) → (is-writing d && counts t) ≡ true → allows d (at-row (t .row) .access) ≡ true → at-row (t .row) .access ≡ RO → ⊥
+    go Neither e a r = let z : _≡_ {A = ℕ} 0 1 = cc in absurd (omega arith)
+    go Reads e a r = let z : _≡_ {A = ℕ} 0 1 = cc in absurd (omega arith)
+    go Writes e a r = let h : 2 ≤ at-row (t .row) .access = leb-true 2 (at-row (t .row) .access) a in omega arith
 
 -- ---- a whole write
 
@@ -95,15 +111,15 @@ module _ (at : ℕ) (v b s a : List ℕ) (row : ℕ) where
     restarts (restarted n) q i z = rw (ap (λ (l : Left). l .values) q, ap (λ (l : Left). l .block) q, z, splice-none a 0)
     restarts (declined c) q i z = let z : _≡_ {A = ℕ} 0 1 = cc (ap (λ (l : Left). l .ending) q) in absurd (omega arith)
 
-    refuses : (o : Outcome Memory) (code : ℕ) {a′ : List ℕ} → left e v′ b′ ≡ left-by (memory-of v b) o → e ≡ Refused code
-        → kept s′ a′ ≡ put-down at s a zero-record (answer-of (refused (key-at row) code)) → told v′ b′ s′ a′ ≡ ended (with-trips (store-of v b s) o)
+    refuses : (o : Outcome Memory) (code : ℕ) {k : Key} {a′ : List ℕ} → left e v′ b′ ≡ left-by (memory-of v b) o → e ≡ Refused code → k ≡ key-at row
+        → kept s′ a′ ≡ put-down at s a zero-record (answer-of (refused k code)) → told v′ b′ s′ a′ ≡ ended (with-trips (store-of v b s) o)
     unfolding told-by settled conclude with-trips left-by lay put-down
-    refuses (stored n) code q i z = let z : _≡_ {A = ℕ} 0 1 = cc (ap (λ (l : Left). l .ending) q) in absurd (omega arith)
-    refuses (restarted n) code q i z = let z : _≡_ {A = ℕ} 0 1 = cc (ap (λ (l : Left). l .ending) q) in absurd (omega arith)
-    refuses (declined c) code {a′} q i z =
+    refuses (stored n) code q i key z = let z : _≡_ {A = ℕ} 0 1 = cc (ap (λ (l : Left). l .ending) q) in absurd (omega arith)
+    refuses (restarted n) code q i key z = let z : _≡_ {A = ℕ} 0 1 = cc (ap (λ (l : Left). l .ending) q) in absurd (omega arith)
+    refuses (declined c) code {k} {a′} q i key z =
         let same : code ≡ c = cc (ap (λ (l : Left). l .ending) q) in
         ap₂ (λ (x y : List ℕ). told x y s′ a′) (ap (λ (l : Left). l .values) q) (ap (λ (l : Left). l .block) q)
-        ∙ ap (λ (k : Kept). told v b (k .state) (k .answer)) (z ∙ ap (λ (n : ℕ). put-down at s a zero-record (answer-of (refused (key-at row) n))) same)
+        ∙ ap (λ (k : Kept). told v b (k .state) (k .answer)) (z ∙ ap₂ (λ (j : Key) (n : ℕ). put-down at s a zero-record (answer-of (refused j n))) key same)
 
     module _ (w : Writable row) (bytes : List ℕ) (q : left e v′ b′ ≡ left-by (memory-of v b) (commit-row row bytes (memory-of v b))) where
       pub accepted-told : e ≡ Accepted → s′ ≡ splice s at (record-bytes zero-record) → told v′ b′ s′ a ≡ ended (plain .commit (store-of v b s) (key-at row) bytes)
@@ -112,9 +128,9 @@ module _ (at : ℕ) (v b s a : List ℕ) (row : ℕ) where
       pub restarted-told : e ≡ Restarted → s′ ≡ fresh-state s → told v′ b′ s′ a ≡ ended (plain .commit (store-of v b s) (key-at row) bytes)
       restarted-told i z = restarts (commit-row row bytes (memory-of v b)) q i z ∙ by-row w bytes
 
-      pub refused-told : (code : ℕ) {a′ : List ℕ} → e ≡ Refused code → kept s′ a′ ≡ put-down at s a zero-record (answer-of (refused (key-at row) code))
+      pub refused-told : (code : ℕ) {k : Key} {a′ : List ℕ} → e ≡ Refused code → k ≡ key-at row → kept s′ a′ ≡ put-down at s a zero-record (answer-of (refused k code))
           → told v′ b′ s′ a′ ≡ ended (plain .commit (store-of v b s) (key-at row) bytes)
-      refused-told code i z = refuses (commit-row row bytes (memory-of v b)) code q i z ∙ by-row w bytes
+      refused-told code i key z = refuses (commit-row row bytes (memory-of v b)) code q i key z ∙ by-row w bytes
 
 -- with the answer in the room
 agreed-told : (at : ℕ) (s before : List ℕ) (c : Transfer) (g : Store) (k : Key) (agreed : Answer Key) {a : List ℕ} → a ≡ splice before 0 (answer-of agreed) → length (answer-of agreed) ≡ 8
@@ -157,11 +173,12 @@ module _ (at : ℕ) (v b s a : List ℕ) where
       unfolding narrowed judged-by
       sized-refused d q = declined-told fault q ∙ ap (λ (z : Sizes). outcome-told (judged-by plain (store-of v b s) k (announced n) bytes z)) (sym (by-fault len len n f closed (sizes n n) d))
 
-      pub sized-right : {x : Told} → fault ≡ 0 → length bytes ≡ n → x ≡ outcome-told (plain .commit (store-of v b s) k bytes) → x ≡ outcome-told sized
+      pub sized-right : {x : Told} {value : List ℕ} → fault ≡ 0 → length bytes ≡ n → value ≡ bytes → x ≡ outcome-told (plain .commit (store-of v b s) k value) → x ≡ outcome-told sized
       unfolding narrowed judged-by judged counted
-      sized-right z l q =
+      sized-right z l e q =
           let within = no-fault len len n f z in
           q
+          ∙ ap (λ (y : List ℕ). outcome-told (plain .commit (store-of v b s) k y)) e
           ∙ ap outcome-told (sym (let-through n n (length bytes) declined (plain .commit (store-of v b s) k bytes) (omega arith) (omega arith)))
           ∙ ap (λ (y : Sizes). outcome-told (judged-by plain (store-of v b s) k (announced n) bytes y)) (sym (let-through len len n closed (sizes n n) (within .0) (within .1)))
 
@@ -174,9 +191,9 @@ module _ (at : ℕ) (v b s a : List ℕ) where
         let m : length (take len bytes) ≡ count = rw length-take (omega arith) in
         declined-told too-short q ∙ rw (m, le-ltb len count (omega arith), lt-ltb count len h)
 
-    pub own-right : {x : Told} (value : List ℕ) → value ≡ take len bytes → length value ≡ len → x ≡ outcome-told (plain .commit (store-of v b s) k value) → x ≡ outcome-told own-length
+    pub own-right : {x : Told} {value : List ℕ} → value ≡ take len bytes → length value ≡ len → x ≡ outcome-told (plain .commit (store-of v b s) k value) → x ≡ outcome-told own-length
     unfolding narrowed judged-by judged counted
-    own-right value e l q =
+    own-right {x} {value} e l q =
         q
         ∙ ap outcome-told (sym (let-through len len (length value) declined (plain .commit (store-of v b s) k value) (omega arith) (omega arith)))
         ∙ ap (λ (y : List ℕ). outcome-told (judged plain (store-of v b s) k len len y)) e

@@ -1,14 +1,14 @@
 -- `line::write::conclude`: by the ending. Assumes nothing.
+use Rattle.line.proofs.Writing.{accepted-told, restarted-told, refused-told}
 use borrow.Author.Needs.{needs}
-use Rattle.table.specs.Rows.{at-row}
-use Rattle.table.proofs.Lengths.{room-allowed}
-use Rattle.state.specs.State.{settled}
-use Rattle.line.specs.Answering.{state-by}
 use Rattle.line.proofs.write.conclude.Statement.{statement}
 use Rattle.line.proofs.write.conclude.Tie as tie
 
+kind-of-requires : tie.Need-kind-of-requires
+kind-of-requires c κs = search needs
+
 commit-requires : tie.Need-commit-requires
-commit-requires c κs = let s = c .before .before .before .before .before .before in (s .pre .0 .values-long, s .pre .0 .block-long, s .pre .1, s .pre .2, room-allowed (at-row (s .args .row)) (s .pre .3))
+commit-requires c κs = search needs
 
 enum-told : tie.Need-enum-told
 enum-told c = search needs
@@ -25,8 +25,11 @@ drop-all-requires c κs = search needs
 enum-known-ending : tie.Need-enum-known-ending
 enum-known-ending c = search needs
 
-clear-record-requires-2 : tie.Need-clear-record-requires-2
-clear-record-requires-2 c κs = search needs
+key-at-requires : tie.Need-key-at-requires
+key-at-requires c κs = search needs
+
+refused-requires : tie.Need-refused-requires
+refused-requires c κs = search needs
 
 same-length : tie.Need-same-length
 same-length c = search needs
@@ -38,8 +41,14 @@ same-length-3 : tie.Need-same-length-3
 same-length-3 c = search needs
 
 returns : tie.Need-returns
-unfolding state-by settled
-returns c = (rw (c .before .before .before .before .enum-told .given .1) at (c .before .before .before .before .before .before .before .before .before .before .commit .ensures), c .before .before .clear-record .ensures)
+returns c =
+    let s = c .before .before .before .before .before .before .before .before .before .before .before .before .before .before .before .before .before .before .before in
+    let p = s .args .at in
+    let v = s .args .values .now in
+    let b = s .args .block .now in
+    let o = s .args .state .now in
+    let a = s .args .room .now in
+    accepted-told p v b o a (s .args .row) (s .pre .1) (s .args .bytes .now) (c .before .before .before .before .before .before .before .before .before .before .commit .ensures) (c .before .before .before .before .enum-told .given .1) (c .before .before .clear-record .ensures)
 
 same-length-4 : tie.Need-same-length-4
 same-length-4 c = search needs
@@ -51,8 +60,14 @@ same-length-6 : tie.Need-same-length-6
 same-length-6 c = search needs
 
 returns-2 : tie.Need-returns-2
-unfolding state-by settled
-returns-2 c = (rw (c .before .before .before .before .enum-told2 .given .1) at (c .before .before .before .before .before .before .before .before .before .before .commit .ensures), c .before .before .drop-all .ensures)
+returns-2 c =
+    let s = c .before .before .before .before .before .before .before .before .before .before .before .before .before .before .before .before .before .before .before in
+    let p = s .args .at in
+    let v = s .args .values .now in
+    let b = s .args .block .now in
+    let o = s .args .state .now in
+    let a = s .args .room .now in
+    restarted-told p v b o a (s .args .row) (s .pre .1) (s .args .bytes .now) (c .before .before .before .before .before .before .before .before .before .before .commit .ensures) (c .before .before .before .before .enum-told2 .given .1) (c .before .before .drop-all .ensures)
 
 same-length-7 : tie.Need-same-length-7
 same-length-7 c = search needs
@@ -63,21 +78,32 @@ same-length-8 c = search needs
 same-length-9 : tie.Need-same-length-9
 same-length-9 c = search needs
 
+same-length-10 : tie.Need-same-length-10
+same-length-10 c = search needs
+
 returns-3 : tie.Need-returns-3
-unfolding state-by settled
-returns-3 c = (rw (c .before .before .before .before .before .ending .given .1) at (c .before .before .before .before .before .before .before .before .before .before .before .commit .ensures), c .before .before .clear-record2 .ensures)
+returns-3 c =
+    let s = c .before .before .before .before .before .before .before .before .before .before .before .before .before .before .before .before .before .before .before .before .before .before .before .before in
+    let p = s .args .at in
+    let v = s .args .values .now in
+    let b = s .args .block .now in
+    let o = s .args .state .now in
+    let a = s .args .room .now in
+    refused-told p v b o a (s .args .row) (s .pre .1) (s .args .bytes .now) (c .before .before .before .before .before .before .before .before .before .before .before .before .before .before .before .commit .ensures) (c .before .before .before .before .before .before .before .before .before .ending .given .0 .0) (c .before .before .before .before .before .before .before .before .before .ending .given .1) (c .before .before .before .before .before .key-at .ensures) (c .before .before .before .before .refused .ensures)
 
 pub conclude-spec : {M : Type 1} → statement M
 conclude-spec =
     tie.close
     (tie.spec
+    kind-of-requires
     commit-requires
     enum-told
     clear-record-requires
     enum-told-2
     drop-all-requires
     enum-known-ending
-    clear-record-requires-2
+    key-at-requires
+    refused-requires
     same-length
     same-length-2
     same-length-3
@@ -89,4 +115,5 @@ conclude-spec =
     same-length-7
     same-length-8
     same-length-9
+    same-length-10
     returns-3)

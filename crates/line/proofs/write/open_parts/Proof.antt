@@ -1,8 +1,6 @@
 -- `line::write::open_parts`: each return is one law, given what the calls ensure. Assumes nothing.
-use mathlib.Core.Path.{ap, _∙_}
+use Rattle.line.proofs.Writing.{parts-opened}
 use borrow.Author.Needs.{needs}
-use Rattle.sdo.proofs.ReplyLaws.{unsaid-opens}
-use Rattle.line.specs.Answering.{replied}
 use Rattle.line.proofs.write.open_parts.Statement.{statement}
 use Rattle.line.proofs.write.open_parts.Tie as tie
 
@@ -18,13 +16,24 @@ going-requires c κs = search needs
 same-length : tie.Need-same-length
 same-length c = search needs
 
+same-length-2 : tie.Need-same-length-2
+same-length-2 c = search needs
+
 returns : tie.Need-returns
 returns c =
-    let s = c .before .before .before .before .before .before .before in
+    let s = c .before .before .before .before .before .before .before .before .before .before .before in
     let p = s .args .at in
     let o = s .args .state .now in
-    c .before .before .going .ensures ∙ ap (replied p o) (unsaid-opens (s .args .row) (s .pre .2) (s .pre .3) (c .before .before .before .write-opened .ensures) (c .before .before .before .before .before .opened .ensures))
+    let a = s .args .room .now in
+    parts-opened p o a (s .args .k) (s .args .row) (s .args .len) (c .before .before .before .before .before .before .before .before .opened .ensures) (c .before .before .before .before .before .write-opened .ensures) (c .before .before .before .before .going .ensures)
 
 pub open-parts-spec : {M : Type 1} → statement M
 open-parts-spec =
-    tie.close (tie.spec opened-requires write-opened-requires going-requires same-length returns)
+    tie.close
+    (tie.spec
+    opened-requires
+    write-opened-requires
+    going-requires
+    same-length
+    same-length-2
+    returns)

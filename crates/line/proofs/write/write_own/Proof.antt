@@ -1,12 +1,12 @@
 -- `line::write::write_own`: each return is one law, given what the calls ensure. Assumes nothing.
-use mathlib.Core.Path.{refl, sym, ap, _∙_}
+use mathlib.Core.Path.{_≡_, sym, ap, _∙_}
+use Prim.Native.Nat.{ℕ, _+_, _-_}
 use native.Mathlib.Omega.{arith}
+use lib.ListN.{length, take, drop}
+use lib.Seq.{take-take}
+use Rattle.wire.proofs.SpliceLaws.{part-length}
+use Rattle.line.proofs.Writing.{own-refused, own-right}
 use borrow.Author.Needs.{needs}
-use Rattle.order.specs.Gauge.{too-short}
-use Rattle.sdo.specs.Replies.{refusal}
-use Rattle.sdo.proofs.ReplyLaws.{own-short, own-right}
-use Rattle.line.specs.Answering.{answered}
-use Rattle.line.proofs.Answered.{refused-row, told-as}
 use Rattle.line.proofs.write.write_own.Statement.{statement}
 use Rattle.line.proofs.write.write_own.Tie as tie
 
@@ -16,20 +16,38 @@ refused-requires c κs = search needs
 same-length : tie.Need-same-length
 same-length c = search needs
 
+same-length-2 : tie.Need-same-length-2
+same-length-2 c = search needs
+
 returns : tie.Need-returns
 returns c =
-    let s = c .before .before .before .before .before .before .before .before .before in
+    let s = c .before .before .before .before .before .before .before .before .before .before .before .before .before in
     let p = s .args .at in
     let v = s .args .values .now in
     let b = s .args .block .now in
     let o = s .args .state .now in
-    told-as p v b o (refusal (s .args .row) too-short) refl (refused-row p o (s .args .row) too-short (s .pre .1 .1) (c .before .before .refused .ensures)) (sym (own-short (s .args .row) (s .args .m .now) (s .pre .3) (omega (arith, s .pre .2))))
+    let a = s .args .room .now in
+    let m = s .args .m .now in
+    let n = s .args .count in
+    let at = s .args .from in
+    let bytes = take n (drop at m) in
+    let long : length bytes ≡ n = part-length m at n (s .pre .3) in
+    own-refused p v b o a (s .args .k) (s .args .len) bytes long (c .before .before .before .before .before .before .before .if1 .taken) (c .before .before .before .before .refused .ensures)
+
+add-with-value : tie.Need-add-with-value
+add-with-value c = search needs
+
+sub-with-value : tie.Need-sub-with-value
+sub-with-value c = search needs
+
+part-with-value-start : tie.Need-part-with-value-start
+part-with-value-start c = search needs
+
+part-with-value-end : tie.Need-part-with-value-end
+part-with-value-end c = search needs
 
 with-value-requires : tie.Need-with-value-requires
 with-value-requires c κs = search needs
-
-same-length-2 : tie.Need-same-length-2
-same-length-2 c = search needs
 
 same-length-3 : tie.Need-same-length-3
 same-length-3 c = search needs
@@ -37,14 +55,30 @@ same-length-3 c = search needs
 same-length-4 : tie.Need-same-length-4
 same-length-4 c = search needs
 
+same-length-5 : tie.Need-same-length-5
+same-length-5 c = search needs
+
+same-length-6 : tie.Need-same-length-6
+same-length-6 c = search needs
+
 returns-2 : tie.Need-returns-2
 returns-2 c =
-    let s = c .before .before .before .before .before .before .before .before .before .before .before .before .before .before .before in
+    let s = c .before .before .before .before .before .before .before .before .before .before .before .before .before .before .before .before .before .before .before .before in
     let p = s .args .at in
     let v = s .args .values .now in
     let b = s .args .block .now in
     let o = s .args .state .now in
-    c .before .before .before .before .before .before .with-value .ensures ∙ ap (answered p v b o) (sym (own-right (s .args .row) (s .args .m .now) (s .pre .3) (s .args .len) (s .pre .2) (omega (arith, s .pre .2))))
+    let a = s .args .room .now in
+    let m = s .args .m .now in
+    let n = s .args .count in
+    let at = s .args .from in
+    let bytes = take n (drop at m) in
+    let long : length bytes ≡ n = part-length m at n (s .pre .3) in
+    let len = s .args .len in
+    let same : at + len - at ≡ len = omega arith in
+    let h = c .before .before .before .before .before .before .before .before .before .before .before .before .before .before .if1 .left in
+    own-right p v b o a (s .args .k) len bytes (ap (λ (j : ℕ). take j (drop at m)) same ∙ sym (take-take len n (drop at m) h))
+    (part-length m at (at + len - at) (omega (arith, h, s .pre .3)) ∙ same) (c .before .before .before .before .before .before .before .before .with-value .ensures)
 
 pub write-own-spec : {M : Type 1} → statement M
 write-own-spec =
@@ -52,9 +86,15 @@ write-own-spec =
     (tie.spec
     refused-requires
     same-length
-    returns
-    with-value-requires
     same-length-2
+    returns
+    add-with-value
+    sub-with-value
+    part-with-value-start
+    part-with-value-end
+    with-value-requires
     same-length-3
     same-length-4
+    same-length-5
+    same-length-6
     returns-2)

@@ -1,16 +1,17 @@
 -- `line::write::write_sized`: each return is one law, given what the calls ensure. Assumes nothing.
-use mathlib.Core.Path.{_≡_, refl, sym, ap, _∙_}
-use Prim.Native.Nat.{ℕ}
+use mathlib.Core.Path.{_≡_, ap, _∙_}
+use mathlib.Core.List.{List}
+use Prim.Native.Nat.{ℕ, _+_, _-_}
 use native.Mathlib.Omega.{arith}
-use lib.ListN.{take, drop}
+use lib.ListN.{length, take, drop}
+use Rattle.wire.proofs.SpliceLaws.{part-length}
+use Rattle.line.proofs.Writing.{no-fault, sized-refused, sized-right}
 use borrow.Author.Needs.{needs}
-use Rattle.order.specs.Gauge.{too-long, too-short}
-use Rattle.sdo.specs.Replies.{refusal, value-reply}
-use Rattle.sdo.proofs.ReplyLaws.{sized-long, sized-short, sized-right}
-use Rattle.line.specs.Answering.{answered}
-use Rattle.line.proofs.Answered.{refused-row, told-as}
 use Rattle.line.proofs.write.write_sized.Statement.{statement}
 use Rattle.line.proofs.write.write_sized.Tie as tie
+
+length-fault-requires : tie.Need-length-fault-requires
+length-fault-requires c κs = search needs
 
 refused-requires : tie.Need-refused-requires
 refused-requires c κs = search needs
@@ -18,32 +19,41 @@ refused-requires c κs = search needs
 same-length : tie.Need-same-length
 same-length c = search needs
 
-returns : tie.Need-returns
-returns c =
-    let s = c .before .before .before .before .before .before .before .before .before in
-    let p = s .args .at in
-    let v = s .args .values .now in
-    let b = s .args .block .now in
-    let o = s .args .state .now in
-    told-as p v b o (refusal (s .args .row) too-long) refl (refused-row p o (s .args .row) too-long (s .pre .1 .1) (c .before .before .refused .ensures)) (sym (sized-long (s .args .row) (s .args .count) (take (s .args .count) (drop 4 (s .args .m .now))) (omega (arith, s .pre .2))))
-
-refused-requires-2 : tie.Need-refused-requires-2
-refused-requires-2 c κs = search needs
-
 same-length-2 : tie.Need-same-length-2
 same-length-2 c = search needs
 
-returns-2 : tie.Need-returns-2
-returns-2 c =
-    let s = c .before .before .before .before .before .before .before .before .before .before in
+returns : tie.Need-returns
+returns c =
+    let s = c .before .before .before .before .before .before .before .before .before .before .before .before .before .before in
     let p = s .args .at in
     let v = s .args .values .now in
     let b = s .args .block .now in
     let o = s .args .state .now in
-    told-as p v b o (refusal (s .args .row) too-short) refl (refused-row p o (s .args .row) too-short (s .pre .1 .1) (c .before .before .refused2 .ensures)) (sym (sized-short (s .args .row) (s .args .count) (take (s .args .count) (drop 4 (s .args .m .now))) (omega (arith, s .pre .2))))
+    let a = s .args .room .now in
+    let m = s .args .m .now in
+    let n = s .args .count in
+    let at = s .args .from in
+    let bytes = take n (drop at m) in
+    let long : length bytes ≡ n = part-length m at n (s .pre .3) in
+    sized-refused p v b o a (s .args .k) (s .args .len) bytes n (c .before .before .before .before .before .before .before .before .length-fault .ensures) (c .before .before .before .before .before .before .before .if1 .taken) (c .before .before .before .before .refused .ensures)
+
+add-with-value : tie.Need-add-with-value
+add-with-value c = search needs
+
+sub-with-value : tie.Need-sub-with-value
+sub-with-value c = search needs
+
+part-with-value-start : tie.Need-part-with-value-start
+part-with-value-start c = search needs
+
+part-with-value-end : tie.Need-part-with-value-end
+part-with-value-end c = search needs
 
 with-value-requires : tie.Need-with-value-requires
-with-value-requires c κs = search needs
+with-value-requires c κs =
+    let s = c .before .before .before .before .before .before .before .before .before .before .before .before in
+    let within = no-fault (s .args .len) (s .args .len) (s .args .count) (c .before .before .before .before .before .before .length-fault .ensures) (c .before .before .before .before .before .if1 .left) in
+    (s .pre .0, s .pre .1, part-length (s .args .m .now) (s .args .from) (s .args .from + s .args .count - s .args .from) (omega (arith, s .pre .3)) ∙ omega (arith, within .0, within .1, s .pre .2))
 
 same-length-3 : tie.Need-same-length-3
 same-length-3 c = search needs
@@ -54,28 +64,41 @@ same-length-4 c = search needs
 same-length-5 : tie.Need-same-length-5
 same-length-5 c = search needs
 
-returns-3 : tie.Need-returns-3
-returns-3 c =
-    let s = c .before .before .before .before .before .before .before .before .before .before .before .before .before .before .before .before in
+same-length-6 : tie.Need-same-length-6
+same-length-6 c = search needs
+
+returns-2 : tie.Need-returns-2
+returns-2 c =
+    let s = c .before .before .before .before .before .before .before .before .before .before .before .before .before .before .before .before .before .before .before .before .before in
     let p = s .args .at in
     let v = s .args .values .now in
     let b = s .args .block .now in
     let o = s .args .state .now in
-    let same : s .args .count ≡ s .args .len = omega (arith, s .pre .2) in
-    c .before .before .before .before .before .before .with-value .ensures ∙ ap (λ (n : ℕ). answered p v b o (value-reply (s .args .row) n (s .args .m .now))) (sym same) ∙ ap (answered p v b o) (sym (sized-right (s .args .row) (s .args .m .now) (s .pre .3) (s .args .count) (same ∙ s .pre .2) (s .pre .4)))
+    let a = s .args .room .now in
+    let m = s .args .m .now in
+    let n = s .args .count in
+    let at = s .args .from in
+    let bytes = take n (drop at m) in
+    let long : length bytes ≡ n = part-length m at n (s .pre .3) in
+    let same : at + n - at ≡ n = omega arith in
+    sized-right p v b o a (s .args .k) (s .args .len) bytes n (c .before .before .before .before .before .before .before .before .before .before .before .before .before .before .before .length-fault .ensures) (c .before .before .before .before .before .before .before .before .before .before .before .before .before .before .if1 .left) long (ap (λ (j : ℕ). take j (drop at m)) same) (c .before .before .before .before .before .before .before .before .with-value .ensures)
 
 pub write-sized-spec : {M : Type 1} → statement M
 write-sized-spec =
     tie.close
     (tie.spec
+    length-fault-requires
     refused-requires
     same-length
-    returns
-    refused-requires-2
     same-length-2
-    returns-2
+    returns
+    add-with-value
+    sub-with-value
+    part-with-value-start
+    part-with-value-end
     with-value-requires
     same-length-3
     same-length-4
     same-length-5
-    returns-3)
+    same-length-6
+    returns-2)
