@@ -21,7 +21,7 @@ use Rattle.table.specs.declared.Found.{Found}
 use Rattle.table.specs.declared.Found.the-variants.{At, NoIndex, NoSub}
 use Rattle.table.proofs.Lengths.{room-allowed, allowed-room}
 use Rattle.table.proofs.Table.{row-rule, find-at}
-use Rattle.entry.specs.Limits.{verdict-code}
+use Rattle.limits.specs.Limits.{verdict-code}
 use Rattle.entry.specs.Entry.{entry-of}
 use Rattle.entry.proofs.RowLaws.{held-most}
 use Rattle.card.proofs.Made.{length-card}

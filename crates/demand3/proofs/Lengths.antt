@@ -24,7 +24,7 @@ use Rattle.trip.specs.declared.Trips.{Trips}
 use Rattle.card.proofs.Stored.{with-card-length}
 use Rattle.block.proofs.Theorems as saved
 use Rattle.sample.specs.Faults.{with-faults, with-summary}
-use Rattle.sample.specs.Sample.{trips-after, with-reading, with-trips, values-after}
+use Rattle.sample.specs.Sample.{trips-after, with-reading, with-trip-entries, values-after}
 use Rattle.command.specs.Words.{command-at, same-bytes, word-of}
 use Rattle.command.specs.declared.word.Command.{Command}
 use Rattle.command.specs.declared.word.Command.the-variants.{DeviceReset, ExceptionReset, StoreParameters, LoadParameters}
@@ -55,8 +55,8 @@ reading-long p valid l e =
     (put-long _ reading-valid 1 _ refl (put-long _ trip-input-2 4 _ refl (put-long _ trip-input-1 4 _ refl (put-long l input-value 4 _ refl e))))
     (put-long l reading-valid 1 0 refl e)
 
-trips-long : (t : Trips) (l : List ℕ) → Long l → Long (with-trips t l)
-unfolding with-trips
+trips-long : (t : Trips) (l : List ℕ) → Long l → Long (with-trip-entries t l)
+unfolding with-trip-entries
 trips-long t l e =
     put-long _ trip-outputs 4 _ refl
     (put-long _ (status-2 + 1) 1 _ refl (put-long _ status-2 1 _ refl (put-long _ (status-1 + 1) 1 _ refl (put-long l status-1 1 _ refl e))))

@@ -13,9 +13,9 @@ use Rattle.order.specs.Gauge.{Gauge, too-long, too-short, narrowed, narrow, cou
 use Rattle.table.specs.Find.{find-row}
 use Rattle.table.specs.declared.Found.{Found}
 use Rattle.table.specs.Row.{smallest, largest}
-use Rattle.entry.specs.Limits.{verdict-code}
+use Rattle.limits.specs.Limits.{verdict-code}
 use Rattle.gauge.specs.Memory.{Memory, Store}
-use Rattle.gauge.specs.Checks.{Asked, asked, asked-key, row-asked, sent, least, most, Test, no-such-index, no-such-subindex, only-written, only-read, announced-long, announced-short, sent-long, sent-short, under-lock, no-number, too-high, too-low, code-of, says-above, says-below, fails, key-order, length-order, last-order, write-order, refused-by, unless-refused, told}
+use Rattle.gauge.specs.Checks.{Asked, asked, asked-key, row-asked, sent, least, most, Test, no-such-index, no-such-subindex, only-written, only-read, announced-long, announced-short, sent-long, sent-short, under-lock, no-number, too-high, too-low, code-of, says-above, says-below, fails, key-order, length-order, last-order, write-order, refused-by, unless-refused, code-told}
 use Rattle.gauge.specs.Whole.{read-whole, sizes-checked, write-sizes, effect, write-by, with-trips, commit-whole, write-checked}
 
 -- ---- the first that fails
@@ -45,7 +45,7 @@ coded too-high e = omega arith
 coded too-low e = omega arith
 
 -- and only where nothing refuses is 0 told
-pub none-told : (o : Option Test) → told o ≡ 0 → o ≡ none
+pub none-told : (o : Option Test) → code-told o ≡ 0 → o ≡ none
 unfolding unless-refused
 none-told none e = refl
 none-told (some t) e = absurd (coded t e)

@@ -15,10 +15,9 @@ use Rattle.table.specs.declared.Found.{Found}
 use Rattle.table.specs.declared.Found.the-variants.{At, NoIndex, NoSub}
 use Rattle.table.specs.Codes.{index-absent, subindex-absent, write-only, read-only, lock-shut}
 use Rattle.gate.specs.Lock.{locked}
-use Rattle.entry.specs.Limits.{verdict-code}
-use Rattle.entry.specs.Entry.{row-verdict}
-use Rattle.entry.specs.declared.limits.Verdict.{Verdict}
-use Rattle.entry.specs.declared.limits.Verdict.the-variants.{NotANumber, Above, Below}
+use Rattle.limits.specs.Limits.{verdict-code, row-verdict}
+use Rattle.limits.specs.declared.Verdict.{Verdict}
+use Rattle.limits.specs.declared.Verdict.the-variants.{NotANumber, Above, Below}
 use Rattle.card.specs.Card.{card-verdict}
 
 -- ---- what is asked
@@ -164,5 +163,5 @@ unless-refused none refuse done = done
 unless-refused (some t) refuse done = refuse (code-of t)
 
 -- the code that is told, 0 where nothing refuses
-abbrev pub told : Option Test → ℕ
-told o = unless-refused o (λ code. code) 0
+abbrev pub code-told : Option Test → ℕ
+code-told o = unless-refused o (λ code. code) 0

@@ -6,8 +6,7 @@ use lib.Dec.{eqb}
 use Rattle.order.specs.Talk.{unsaid, Read, value, denied, Sizes, sizes, closed, Outcome, stored, restarted, declined}
 use Rattle.table.specs.Row.{Row, smallest, largest, CARD, COMMAND}
 use Rattle.table.specs.Find.{find-row}
-use Rattle.entry.specs.Entry.{entry-of}
-use Rattle.entry.specs.Entry as entry
+use Rattle.entry.specs.Entry.{entry-of, with-entry}
 use Rattle.card.specs.Card.{card-of, with-card}
 use Rattle.trip.specs.Trip.{all-off}
 use Rattle.command.specs.Words.{command-at, read-word}
@@ -45,7 +44,7 @@ unfoldable pub effect : Row → List ℕ → Memory → Outcome Memory
 effect r bytes m =
     by-type r (stored (with-values m (with-card (m .values) bytes)))
     (obeyed (command-at (r .index)) bytes m)
-    (stored (with-values m (entry.stored r (m .values) bytes)))
+    (stored (with-values m (with-entry r (m .values) bytes)))
 
 -- a write that is refused by the first of some tests, or done
 unfoldable pub write-by : List Test → Asked → Memory → Outcome Memory
