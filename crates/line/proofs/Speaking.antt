@@ -9,7 +9,7 @@ use borrow.Author.Tests.{ne-eqb}
 use Rattle.order.specs.Talk.{Said, announced, unsaid, own, open-read, next-part, expedited, open-write, send-part, unknown, write-opened, refused, no-transfer, Sizes, sizes, closed}
 use Rattle.order.specs.Gauge.{narrow, narrowed, judged-by, write-whole}
 use Rattle.order.specs.Serve.{Served, keeping, read-opening, read-part, write-opening, conclude, write-part, serve}
-use Rattle.table.specs.Row.{RO}
+use Rattle.table.specs.Row.{RO, smallest, largest}
 use Rattle.table.specs.Rows.{at-row}
 use Rattle.table.specs.Codes.{read-only}
 use Rattle.table.specs.Find.{find-row}
@@ -20,7 +20,6 @@ use Rattle.find.specs.declared.Gate.{Gate}
 use Rattle.find.specs.declared.Gate.the-variants.{Open, Shut}
 use Rattle.gate.specs.Gates.{gate, write-gate, way-of, Shaped}
 use Rattle.gate.proofs.GateLaws.{opened, shaped}
-use Rattle.gauge.specs.Checks.{smallest, largest}
 use Rattle.gauge.specs.Whole.{read-checked, read-whole, write-sizes}
 use Rattle.gauge.proofs.ByGate.{sizes-of, sizes-by-gate}
 use Rattle.sdo.specs.declared.Key.{Key}
@@ -38,6 +37,7 @@ use Rattle.line.specs.Gauge.{plain, store-of}
 use Rattle.line.specs.Serving.{kept, put-down, replied, Told, told, told-by, spoken-over, message-told, Writable}
 use Rattle.line.proofs.Told.{kept-told, over-told, message-asks}
 use Rattle.line.proofs.Doors.{leads, stops}
+use Rattle.line.proofs.Writing.{smallest-forgotten}
 
 -- ---- what the gate says of an entry that is written
 
@@ -117,31 +117,31 @@ module _ (at : ℕ) (v b s a m : List ℕ) where
         go Unsaid = over-told at s a v b (zero-record-at (row-of k)) (refused k code) refl q
 
     -- the entry's row may be written
-    module _ (row len : ℕ) (w : Writable row) (found : find-row (k .index) (k .sub) ≡ At row) (l : len ≡ at-row row .len) where
-      row-sizes : write-sizes (k .index) (k .sub) ≡ sizes len len
-      unfolding gate sizes-of smallest largest
-      row-sizes = sizes-by-gate (k .index) (k .sub) ∙ rw (found, ne-eqb (at-row row .access) RO (w .open-to-writes), l)
+    module _ (row low high : ℕ) (w : Writable row) (found : find-row (k .index) (k .sub) ≡ At row) (l : low ≡ smallest (at-row row)) (h : high ≡ largest (at-row row)) where
+      row-sizes : write-sizes (k .index) (k .sub) ≡ sizes low high
+      unfolding gate sizes-of
+      row-sizes = sizes-by-gate (k .index) (k .sub) ∙ rw (found, ne-eqb (at-row row .access) RO (w .open-to-writes), l, h)
 
-      pub said-value : (n : ℕ) {x : Told} → heard-of m ≡ Asks (OpenWrite k (Value n)) → x ≡ served zero-record (conclude plain (store-of v b s) k (write-opened k) (judged-by plain (store-of v b s) k (announced n) (take n (drop 4 m)) (narrowed len len (announced n))))
+      pub said-value : (n : ℕ) {x : Told} → heard-of m ≡ Asks (OpenWrite k (Value n)) → x ≡ served zero-record (conclude plain (store-of v b s) k (write-opened k) (judged-by plain (store-of v b s) k (announced n) (take n (drop 4 m)) (narrowed low high (announced n))))
           → x ≡ message-told at m v b s a
       unfolding narrow
-      said-value n h q = by-table (Value n) (sizes len len) h row-sizes q
+      said-value n e q = by-table (Value n) (sizes low high) e row-sizes q
 
-      pub said-own : {x : Told} → heard-of m ≡ Asks (OpenWrite k Own) → x ≡ served zero-record (conclude plain (store-of v b s) k (write-opened k) (judged-by plain (store-of v b s) k own (take 4 (drop 4 m)) (narrowed len len own)))
+      pub said-own : {x : Told} → heard-of m ≡ Asks (OpenWrite k Own) → x ≡ served zero-record (conclude plain (store-of v b s) k (write-opened k) (judged-by plain (store-of v b s) k own (take 4 (drop 4 m)) (sizes high high)))
           → x ≡ message-told at m v b s a
-      unfolding narrow
-      said-own h q = by-table Own (sizes len len) h row-sizes q
+      unfolding narrow narrowed
+      said-own e q = by-table Own (sizes low high) e row-sizes q
 
       parts : (z : Sizes) {s′ a′ : List ℕ} → kept s′ a′ ≡ replied at s a (zero-record-at row) (write-opening plain k [] z)
           → told v b s′ a′ ≡ served (zero-record-at (row-of k)) (keeping plain (store-of v b s) (write-opening plain k [] z))
       parts z q = rw (found-number k row found) (kept-told at s a v b (zero-record-at row) _ q)
 
       pub said-announced : (n : ℕ) {s′ a′ : List ℕ} → heard-of m ≡ Asks (OpenWrite k (Announced n))
-          → kept s′ a′ ≡ replied at s a (zero-record-at row) (write-opening plain k [] (narrowed len len (announced n))) → told v b s′ a′ ≡ message-told at m v b s a
+          → kept s′ a′ ≡ replied at s a (zero-record-at row) (write-opening plain k [] (narrowed low high (announced n))) → told v b s′ a′ ≡ message-told at m v b s a
       unfolding narrow
-      said-announced n h q = by-table (Announced n) (sizes len len) h row-sizes (parts _ q)
+      said-announced n e q = by-table (Announced n) (sizes low high) e row-sizes (parts _ q)
 
       pub said-unsaid : {s′ a′ : List ℕ} → heard-of m ≡ Asks (OpenWrite k Unsaid)
-          → kept s′ a′ ≡ replied at s a (zero-record-at row) (write-opening plain k [] (sizes len len)) → told v b s′ a′ ≡ message-told at m v b s a
+          → kept s′ a′ ≡ replied at s a (zero-record-at row) (write-opening plain k [] (sizes high high)) → told v b s′ a′ ≡ message-told at m v b s a
       unfolding narrow narrowed
-      said-unsaid h q = by-table Unsaid (sizes len len) h row-sizes (parts _ q)
+      said-unsaid e q = by-table Unsaid (sizes low high) e row-sizes (parts _ (q ∙ smallest-forgotten at s a k row low high))

@@ -2,26 +2,26 @@
 use mathlib.Core.Path.{_≡_, refl, sym, ap, ap₂, _∙_}
 use mathlib.Core.Bool.{Bool, true, false, cond, not, Bool·beq, _&&_}
 use mathlib.Core.List.{List, [], _++_}
-use Prim.Native.Nat.{ℕ, _+_, _-_, _≤_, _<_}
+use Prim.Native.Nat.{ℕ, _+_, _≤_, _<_}
 use native.Mathlib.Omega.{arith}
 use lib.Dec.{ltb}
-use lib.ListN.{length, take, drop, replicate, length-take}
-use lib.Seq.{take-take}
+use lib.ListN.{length, take, replicate, length-take}
 use borrow.Author.Tests.{ltb-false, leb-true, lt-ltb, le-ltb, ne-eqb}
 use Rattle.wire.specs.Splice.{splice}
 use Rattle.wire.specs.Little.{little}
-use Rattle.wire.proofs.SpliceLaws.{splice-none, splice-again, part-length}
+use Rattle.wire.proofs.SpliceLaws.{splice-none, splice-again}
 use Rattle.order.specs.Talk.{announced, own, Answer, write-opened, part-taken, refused, dropped, no-transfer, silent, Sizes, sizes, closed, Outcome, stored, restarted, declined, Pending, writing}
 use Rattle.order.specs.Gauge.{too-long, too-short, by-length, narrowed, counted, judged-by, judged}
-use Rattle.order.specs.Serve.{toggle-code, Reply, Served, write-opening, take-more, conclude, take-part, write-part}
-use Rattle.table.specs.Row.{RO}
-use Rattle.table.specs.Rows.{row-count, at-row}
+use Rattle.order.specs.Serve.{toggle-code, Reply, onwards, refuse, Served, write-opening, take-more, conclude, take-part, write-part}
+use Rattle.table.specs.Row.{RO, Allowed}
+use Rattle.table.specs.Rows.{at-row}
 use Rattle.table.specs.Find.{find-row}
+use Rattle.table.proofs.Lengths.{largest-is}
 use Rattle.table.proofs.Table.{row-rule, row-found}
 use Rattle.gate.specs.Gates.{Way, to-row, gate, write-gate}
 use Rattle.gauge.specs.Memory.{Memory, Store, memory-of}
 use Rattle.gauge.specs.Endings.{Left, left, left-by}
-use Rattle.gauge.specs.Whole.{commit-row, with-trips, commit-whole}
+use Rattle.gauge.specs.Whole.{commit-row, with-trips}
 use Rattle.gauge.specs.declared.commit.Ending.{Ending}
 use Rattle.gauge.specs.declared.commit.Ending.the-variants.{Accepted, Restarted, Refused}
 use Rattle.gauge.proofs.ByGate.{commit-through, commit-by-gate}
@@ -65,8 +65,8 @@ let-through low high n refuse pass l h = rw (le-ltb high n h, le-ltb n low l)
 
 -- ---- a row that may be written
 
-pub row-most : {row len : ℕ} → Writable row → len ≡ at-row row .len → len ≤ 64
-row-most {row} w e = let most = row-rule row (w .there) .most in omega arith
+pub row-most : {row len : ℕ} → Writable row → Allowed (at-row row) len → len ≤ 64
+row-most {row} w e = let most = row-rule row (w .there) .most in omega (arith, e .not-over, largest-is (at-row row), most)
 
 -- the row of a write that a record holds
 pub writing-row : (t : Transfer) → (is-writing (t .direction) && counts t) ≡ true → Writable (t .row)
@@ -157,7 +157,7 @@ module _ (at : ℕ) (v b s a : List ℕ) where
 
   -- ---- a value of a length that is said, or of the entry's own
 
-  module _ (k : Key) (len : ℕ) (bytes : List ℕ) where
+  module _ (k : Key) (bytes : List ℕ) where
     abbrev outcome-told : Outcome Store → Told
     outcome-told o = told-by at s a (spoken-over zero-record (conclude plain (store-of v b s) k (write-opened k) o))
 
@@ -165,38 +165,38 @@ module _ (at : ℕ) (v b s a : List ℕ) where
     unfolding conclude
     declined-told code q = over-told at s a v b zero-record (refused k code) refl q
 
-    module _ (n : ℕ) {fault : ℕ} (f : fault ≡ by-length len len n (λ c. c) 0) where
+    module _ (low high n : ℕ) {fault : ℕ} (f : fault ≡ by-length low high n (λ c. c) 0) where
       abbrev sized : Outcome Store
-      sized = judged-by plain (store-of v b s) k (announced n) bytes (narrowed len len (announced n))
+      sized = judged-by plain (store-of v b s) k (announced n) bytes (narrowed low high (announced n))
 
       pub sized-refused : {s′ a′ : List ℕ} → (fault ≡ 0 → ⊥) → kept s′ a′ ≡ put-down at s a zero-record (answer-of (refused k fault)) → told v b s′ a′ ≡ outcome-told sized
       unfolding narrowed judged-by
-      sized-refused d q = declined-told fault q ∙ ap (λ (z : Sizes). outcome-told (judged-by plain (store-of v b s) k (announced n) bytes z)) (sym (by-fault len len n f closed (sizes n n) d))
+      sized-refused d q = declined-told fault q ∙ ap (λ (z : Sizes). outcome-told (judged-by plain (store-of v b s) k (announced n) bytes z)) (sym (by-fault low high n f closed (sizes n n) d))
 
       pub sized-right : {x : Told} {value : List ℕ} → fault ≡ 0 → length bytes ≡ n → value ≡ bytes → x ≡ outcome-told (plain .commit (store-of v b s) k value) → x ≡ outcome-told sized
       unfolding narrowed judged-by judged counted
       sized-right z l e q =
-          let within = no-fault len len n f z in
+          let within = no-fault low high n f z in
           q
           ∙ ap (λ (y : List ℕ). outcome-told (plain .commit (store-of v b s) k y)) e
           ∙ ap outcome-told (sym (let-through n n (length bytes) declined (plain .commit (store-of v b s) k bytes) (omega arith) (omega arith)))
-          ∙ ap (λ (y : Sizes). outcome-told (judged-by plain (store-of v b s) k (announced n) bytes y)) (sym (let-through len len n closed (sizes n n) (within .0) (within .1)))
+          ∙ ap (λ (y : Sizes). outcome-told (judged-by plain (store-of v b s) k (announced n) bytes y)) (sym (let-through low high n closed (sizes n n) (within .0) (within .1)))
 
-    abbrev own-length : Outcome Store
-    own-length = judged-by plain (store-of v b s) k own bytes (narrowed len len own)
+    abbrev own-length : ℕ → Outcome Store
+    own-length high = judged-by plain (store-of v b s) k own bytes (sizes high high)
 
-    pub own-refused : {count : ℕ} {s′ a′ : List ℕ} → length bytes ≡ count → count < len → kept s′ a′ ≡ put-down at s a zero-record (answer-of (refused k too-short)) → told v b s′ a′ ≡ outcome-told own-length
-    unfolding narrowed judged-by judged counted by-length
-    own-refused {count} l h q =
-        let m : length (take len bytes) ≡ count = rw length-take (omega arith) in
-        declined-told too-short q ∙ rw (m, le-ltb len count (omega arith), lt-ltb count len h)
+    pub own-refused : (high : ℕ) {count : ℕ} {s′ a′ : List ℕ} → length bytes ≡ count → count < high → kept s′ a′ ≡ put-down at s a zero-record (answer-of (refused k too-short)) → told v b s′ a′ ≡ outcome-told (own-length high)
+    unfolding judged-by judged counted by-length
+    own-refused high {count} l h q =
+        let m : length (take high bytes) ≡ count = rw length-take (omega arith) in
+        declined-told too-short q ∙ rw (m, le-ltb high count (omega arith), lt-ltb count high h)
 
-    pub own-right : {x : Told} {value : List ℕ} → value ≡ take len bytes → length value ≡ len → x ≡ outcome-told (plain .commit (store-of v b s) k value) → x ≡ outcome-told own-length
-    unfolding narrowed judged-by judged counted
-    own-right {x} {value} e l q =
+    pub own-right : (high : ℕ) {x : Told} {value : List ℕ} → value ≡ take high bytes → length value ≡ high → x ≡ outcome-told (plain .commit (store-of v b s) k value) → x ≡ outcome-told (own-length high)
+    unfolding judged-by judged counted
+    own-right high {x} {value} e l q =
         q
-        ∙ ap outcome-told (sym (let-through len len (length value) declined (plain .commit (store-of v b s) k value) (omega arith) (omega arith)))
-        ∙ ap (λ (y : List ℕ). outcome-told (judged plain (store-of v b s) k len len y)) e
+        ∙ ap outcome-told (sym (let-through high high (length value) declined (plain .commit (store-of v b s) k value) (omega arith) (omega arith)))
+        ∙ ap (λ (y : List ℕ). outcome-told (judged plain (store-of v b s) k high high y)) e
 
   -- ---- the last part
 
@@ -254,30 +254,38 @@ module _ (at : ℕ) (s a : List ℕ) where
         rw (le-ltb (t .len) (length (take (t .place) (t .held) ++ bytes)) (omega (arith, sent-count)))
         (onwards-replied at s a t (grown t bytes) _ (part-taken (t .toggle)) e (sym (lay-writing t bytes inside (t .len))) (ap₂ kept p r))
 
-  module _ (k : Key) (row len : ℕ) where
-    pub parts-opened : {next : Transfer} {x : Kept} {eight : List ℕ} → next ≡ opened-record Writes row (replicate 64 0) len → eight ≡ answer-of (write-opened k) → x ≡ put-down at s a next eight
-        → x ≡ replied at s a (zero-record-at row) (write-opening plain k [] (sizes len len))
+  module _ (k : Key) (row : ℕ) where
+    pub parts-opened : (len : ℕ) {next : Transfer} {x : Kept} {eight : List ℕ} → next ≡ opened-record Writes row (replicate 64 0) len → eight ≡ answer-of (write-opened k)
+        → x ≡ put-down at s a next eight → x ≡ replied at s a (zero-record-at row) (write-opening plain k [] (sizes len len))
     unfolding write-opening take-more
-    parts-opened n e q =
+    parts-opened len n e q =
         rw (le-ltb len 0 (omega arith)) (onwards-replied at s a (zero-record-at row) _ (writing k len len [] false) (write-opened k) e (n ∙ sym (lay-begun row k len len)) q)
 
-    module _ (n : ℕ) {fault : ℕ} (f : fault ≡ by-length len len n (λ c. c) 0) where
+    -- the record does not keep the smallest length
+    pub smallest-forgotten : (low high : ℕ) → replied at s a (zero-record-at row) (write-opening plain k [] (sizes high high)) ≡ replied at s a (zero-record-at row) (write-opening plain k [] (sizes low high))
+    unfolding write-opening take-more replied lay
+    smallest-forgotten low high = go (ltb high 0)
+      where
+        go : (d : Bool)
+            → replied at s a (zero-record-at row) (cond d (refuse plain k too-long) (onwards plain (writing k high high [] false) (write-opened k)))
+            ≡ replied at s a (zero-record-at row) (cond d (refuse plain k too-long) (onwards plain (writing k low high [] false) (write-opened k)))
+        go true = refl
+        go false = refl
+
+    module _ (low high n : ℕ) {fault : ℕ} (f : fault ≡ by-length low high n (λ c. c) 0) where
       pub announced-refused : {x : Kept} → (fault ≡ 0 → ⊥) → x ≡ put-down at s a zero-record (answer-of (refused k fault))
-          → x ≡ replied at s a (zero-record-at row) (write-opening plain k [] (narrowed len len (announced n)))
+          → x ≡ replied at s a (zero-record-at row) (write-opening plain k [] (narrowed low high (announced n)))
       unfolding write-opening narrowed
       announced-refused d q =
           over-replied at s a (zero-record-at row) (refused k fault) refl q
-          ∙ ap (λ (z : Sizes). replied at s a (zero-record-at row) (write-opening plain k [] z)) (sym (by-fault len len n f closed (sizes n n) d))
+          ∙ ap (λ (z : Sizes). replied at s a (zero-record-at row) (write-opening plain k [] z)) (sym (by-fault low high n f closed (sizes n n) d))
 
-      pub announced-right : {x : Kept} → fault ≡ 0 → x ≡ replied at s a (zero-record-at row) (write-opening plain k [] (sizes len len))
-          → x ≡ replied at s a (zero-record-at row) (write-opening plain k [] (narrowed len len (announced n)))
+      pub announced-right : {x : Kept} → fault ≡ 0 → x ≡ replied at s a (zero-record-at row) (write-opening plain k [] (sizes n n))
+          → x ≡ replied at s a (zero-record-at row) (write-opening plain k [] (narrowed low high (announced n)))
       unfolding narrowed
       announced-right z q =
-          let within = no-fault len len n f z in
-          let same : len ≡ n = omega (arith, within .0, within .1) in
-          q
-          ∙ ap (λ (j : ℕ). replied at s a (zero-record-at row) (write-opening plain k [] (sizes j j))) same
-          ∙ ap (λ (y : Sizes). replied at s a (zero-record-at row) (write-opening plain k [] y)) (sym (let-through len len n closed (sizes n n) (within .0) (within .1)))
+          let within = no-fault low high n f z in
+          q ∙ ap (λ (y : Sizes). replied at s a (zero-record-at row) (write-opening plain k [] y)) (sym (let-through low high n closed (sizes n n) (within .0) (within .1)))
 
 -- ---- a part, by the record
 

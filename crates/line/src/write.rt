@@ -16,6 +16,7 @@ ghost use lib.ListN.{length, take, drop};
 ghost use Rattle.order.specs.Talk.{announced, own, part-taken, write-opened, silent, sizes};
 ghost use Rattle.order.specs.Gauge.{by-length, narrowed, judged-by};
 ghost use Rattle.order.specs.Serve.{write-opening, take-more, conclude, take-part, write-part};
+ghost use Rattle.table.specs.Row.{smallest, largest, Allowed};
 ghost use Rattle.table.specs.Rows.{at-row};
 ghost use Rattle.table.specs.Find.{find-row};
 ghost use Rattle.table.specs.declared.Found.the-variants.{At};
@@ -52,7 +53,7 @@ fn conclude(
     bytes: &[u8],
     room: &mut [u8],
 )
-    requires { ⌜ Ready at (now values) (now block) (now state) (now room) × Writable row × (length (now bytes) ≡ at-row row .len) ⌝ }
+    requires { ⌜ Ready at (now values) (now block) (now state) (now room) × Writable row × Allowed (at-row row) (length (now bytes)) ⌝ }
     ensures { λ _. ⌜ told (now (values .exit)) (now (block .exit)) (now (state .exit)) (now (room .exit)) ≡ told-by at (now (state .entry)) (now (room .entry)) (spoken-over zero-record (conclude plain (store-of (now (values .entry)) (now (block .entry)) (now (state .entry))) (key-at row) silent (plain .commit (store-of (now (values .entry)) (now (block .entry)) (now (state .entry))) (key-at row) (now (bytes .entry))))) ⌝ }
 {
     let kind = find::field::kind_of(row);
@@ -76,7 +77,7 @@ fn take_more(
     count: usize,
     room: &mut [u8],
 )
-    requires { ⌜ Room at (now state) (now room) × (from + count ≤ length (now m)) × Writable (t .row) × (t .len ≡ at-row (t .row) .len) × (t .place ≤ t .len) × (t ≡ record-at (now state) at) ⌝ }
+    requires { ⌜ Room at (now state) (now room) × (from + count ≤ length (now m)) × Writable (t .row) × Allowed (at-row (t .row)) (t .len) × (t .place ≤ t .len) × (t ≡ record-at (now state) at) ⌝ }
     ensures { λ _. ⌜ kept (now (state .exit)) (now (room .exit)) ≡ replied at (now (state .entry)) (now (room .entry)) t (take-more plain (key-at (t .row)) (t .len) (t .len) (take (t .place) (t .held) ++ take count (drop from (now (m .entry)))) (not (t .toggle)) (part-taken (t .toggle))) ⌝ }
 {
     let row = t.row;
@@ -101,7 +102,7 @@ fn take_last(
     count: usize,
     room: &mut [u8],
 )
-    requires { ⌜ Ready at (now values) (now block) (now state) (now room) × (from + count ≤ length (now m)) × Writable (t .row) × (t .len ≡ at-row (t .row) .len) × (t .place ≤ t .len) × (t ≡ record-at (now state) at) ⌝ }
+    requires { ⌜ Ready at (now values) (now block) (now state) (now room) × (from + count ≤ length (now m)) × Writable (t .row) × Allowed (at-row (t .row)) (t .len) × (t .place ≤ t .len) × (t ≡ record-at (now state) at) ⌝ }
     ensures { λ _. ⌜ told (now (values .exit)) (now (block .exit)) (now (state .exit)) (now (room .exit)) ≡ told-by at (now (state .entry)) (now (room .entry)) (spoken-over t (take-part plain (store-of (now (values .entry)) (now (block .entry)) (now (state .entry))) (key-at (t .row)) (t .len) (t .len) (take (t .place) (t .held) ++ take count (drop from (now (m .entry)))) (not (t .toggle)) true (part-taken (t .toggle)))) ⌝ }
 {
     let row = t.row;
@@ -173,7 +174,7 @@ fn with_value(
     bytes: &[u8],
     room: &mut [u8],
 )
-    requires { ⌜ Ready at (now values) (now block) (now state) (now room) × (Writable row × (k ≡ key-at row)) × (length (now bytes) ≡ at-row row .len) ⌝ }
+    requires { ⌜ Ready at (now values) (now block) (now state) (now room) × (Writable row × (k ≡ key-at row)) × Allowed (at-row row) (length (now bytes)) ⌝ }
     ensures { λ _. ⌜ told (now (values .exit)) (now (block .exit)) (now (state .exit)) (now (room .exit)) ≡ told-by at (now (state .entry)) (now (room .entry)) (spoken-over zero-record (conclude plain (store-of (now (values .entry)) (now (block .entry)) (now (state .entry))) k (write-opened k) (plain .commit (store-of (now (values .entry)) (now (block .entry)) (now (state .entry))) k (now (bytes .entry))))) ⌝ }
 {
     reply::tell(room, answer::write_opened(k));
@@ -188,16 +189,17 @@ fn write_sized(
     at: usize,
     k: Key,
     row: usize,
-    len: usize,
+    low: usize,
+    high: usize,
     m: &[u8],
     from: usize,
     count: usize,
     room: &mut [u8],
 )
-    requires { ⌜ Ready at (now values) (now block) (now state) (now room) × (Writable row × (k ≡ key-at row)) × (len ≡ at-row row .len) × (from + count ≤ length (now m)) ⌝ }
-    ensures { λ _. ⌜ told (now (values .exit)) (now (block .exit)) (now (state .exit)) (now (room .exit)) ≡ told-by at (now (state .entry)) (now (room .entry)) (spoken-over zero-record (conclude plain (store-of (now (values .entry)) (now (block .entry)) (now (state .entry))) k (write-opened k) (judged-by plain (store-of (now (values .entry)) (now (block .entry)) (now (state .entry))) k (announced count) (take count (drop from (now (m .entry)))) (narrowed len len (announced count))))) ⌝ }
+    requires { ⌜ Ready at (now values) (now block) (now state) (now room) × (Writable row × (k ≡ key-at row)) × ((low ≡ smallest (at-row row)) × (high ≡ largest (at-row row))) × (from + count ≤ length (now m)) ⌝ }
+    ensures { λ _. ⌜ told (now (values .exit)) (now (block .exit)) (now (state .exit)) (now (room .exit)) ≡ told-by at (now (state .entry)) (now (room .entry)) (spoken-over zero-record (conclude plain (store-of (now (values .entry)) (now (block .entry)) (now (state .entry))) k (write-opened k) (judged-by plain (store-of (now (values .entry)) (now (block .entry)) (now (state .entry))) k (announced count) (take count (drop from (now (m .entry)))) (narrowed low high (announced count))))) ⌝ }
 {
-    let fault = length_fault(len, len, count);
+    let fault = length_fault(low, high, count);
     if fault != 0 {
         reply::refused(state, at, room, k, fault);
         return;
@@ -222,20 +224,20 @@ fn write_own(
     at: usize,
     k: Key,
     row: usize,
-    len: usize,
+    high: usize,
     m: &[u8],
     from: usize,
     count: usize,
     room: &mut [u8],
 )
-    requires { ⌜ Ready at (now values) (now block) (now state) (now room) × (Writable row × (k ≡ key-at row)) × (len ≡ at-row row .len) × (from + count ≤ length (now m)) ⌝ }
-    ensures { λ _. ⌜ told (now (values .exit)) (now (block .exit)) (now (state .exit)) (now (room .exit)) ≡ told-by at (now (state .entry)) (now (room .entry)) (spoken-over zero-record (conclude plain (store-of (now (values .entry)) (now (block .entry)) (now (state .entry))) k (write-opened k) (judged-by plain (store-of (now (values .entry)) (now (block .entry)) (now (state .entry))) k own (take count (drop from (now (m .entry)))) (narrowed len len own)))) ⌝ }
+    requires { ⌜ Ready at (now values) (now block) (now state) (now room) × (Writable row × (k ≡ key-at row)) × (high ≡ largest (at-row row)) × (from + count ≤ length (now m)) ⌝ }
+    ensures { λ _. ⌜ told (now (values .exit)) (now (block .exit)) (now (state .exit)) (now (room .exit)) ≡ told-by at (now (state .entry)) (now (room .entry)) (spoken-over zero-record (conclude plain (store-of (now (values .entry)) (now (block .entry)) (now (state .entry))) k (write-opened k) (judged-by plain (store-of (now (values .entry)) (now (block .entry)) (now (state .entry))) k own (take count (drop from (now (m .entry)))) (sizes high high)))) ⌝ }
 {
-    if count < len {
+    if count < high {
         reply::refused(state, at, room, k, code::TOO_SHORT);
         return;
     }
-    with_value(values, block, state, at, k, row, &m[from..from + len], room);
+    with_value(values, block, state, at, k, row, &m[from..from + high], room);
 }
 
 // A write in parts, its length announced.
@@ -244,19 +246,21 @@ fn open_announced(
     at: usize,
     k: Key,
     row: usize,
-    len: usize,
+    low: usize,
+    high: usize,
     n: u32,
     room: &mut [u8],
 )
-    requires { ⌜ Room at (now state) (now room) × (len ≤ 64) ⌝ }
-    ensures { λ _. ⌜ kept (now (state .exit)) (now (room .exit)) ≡ replied at (now (state .entry)) (now (room .entry)) (zero-record-at row) (write-opening plain k [] (narrowed len len (announced n))) ⌝ }
+    requires { ⌜ Room at (now state) (now room) × (high ≤ 64) ⌝ }
+    ensures { λ _. ⌜ kept (now (state .exit)) (now (room .exit)) ≡ replied at (now (state .entry)) (now (room .entry)) (zero-record-at row) (write-opening plain k [] (narrowed low high (announced n))) ⌝ }
 {
-    let fault = length_fault(len, len, n as usize);
+    let said = n as usize;
+    let fault = length_fault(low, high, said);
     if fault != 0 {
         reply::refused(state, at, room, k, fault);
         return;
     }
-    open_parts(state, at, k, row, len, room);
+    open_parts(state, at, k, row, said, room);
 }
 
 fn open_on(
@@ -274,7 +278,8 @@ fn open_on(
     requires { ⌜ Ready at (now values) (now block) (now state) (now room) × (Writable row × (find-row (k .index) (k .sub) ≡ At row) × (shape ≡ row-shape (at-row row))) × (length (now m) ≡ 8) × (heard-of (now m) ≡ Asks (OpenWrite k opening)) ⌝ }
     ensures { λ _. ⌜ told (now (values .exit)) (now (block .exit)) (now (state .exit)) (now (room .exit)) ≡ message-told at (now (m .entry)) (now (values .entry)) (now (block .entry)) (now (state .entry)) (now (room .entry)) ⌝ }
 {
-    let len = find::field::len_in(shape);
+    let low = find::field::smallest_in(shape);
+    let high = find::field::largest_in(shape);
     match opening {
         Opening::Value(count) => write_sized(
             values,
@@ -283,7 +288,8 @@ fn open_on(
             at,
             k,
             row,
-            len,
+            low,
+            high,
             m,
             sdo::VALUE_AT,
             count,
@@ -296,14 +302,14 @@ fn open_on(
             at,
             k,
             row,
-            len,
+            high,
             m,
             sdo::VALUE_AT,
             sdo::VALUE,
             room,
         ),
-        Opening::Announced(n) => open_announced(state, at, k, row, len, n, room),
-        Opening::Unsaid => open_parts(state, at, k, row, len, room),
+        Opening::Announced(n) => open_announced(state, at, k, row, low, high, n, room),
+        Opening::Unsaid => open_parts(state, at, k, row, high, room),
     }
 }
 

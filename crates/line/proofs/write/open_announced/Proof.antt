@@ -1,5 +1,6 @@
 -- `line::write::open_announced`: each return is one law, given what the calls ensure. Assumes nothing.
-use Rattle.line.proofs.Writing.{announced-refused, announced-right}
+use Rattle.line.proofs.Writing.{no-fault, announced-refused, announced-right}
+use native.Mathlib.Omega.{arith}
 use borrow.Author.Needs.{needs}
 use Rattle.line.proofs.write.open_announced.Statement.{statement}
 use Rattle.line.proofs.write.open_announced.Tie as tie
@@ -22,10 +23,13 @@ returns c =
     let p = s .args .at in
     let o = s .args .state .now in
     let a = s .args .room .now in
-    announced-refused p o a (s .args .k) (s .args .row) (s .args .len) (s .args .n) (c .before .before .before .before .before .before .before .before .length-fault .ensures) (c .before .before .before .before .before .before .before .if1 .taken) (c .before .before .before .before .refused .ensures)
+    announced-refused p o a (s .args .k) (s .args .row) (s .args .low) (s .args .high) (s .args .n) (c .before .before .before .before .before .before .before .before .length-fault .ensures) (c .before .before .before .before .before .before .before .if1 .taken) (c .before .before .before .before .refused .ensures)
 
 open-parts-requires : tie.Need-open-parts-requires
-open-parts-requires c κs = search needs
+open-parts-requires c κs =
+    let s = c .before .before .before .before in
+    let within = no-fault (s .args .low) (s .args .high) (s .args .n) (c .before .before .length-fault .ensures) (c .before .if1 .left) in
+    (s .pre .0, omega (arith, within .1, s .pre .1))
 
 same-length-3 : tie.Need-same-length-3
 same-length-3 c = search needs
@@ -39,7 +43,7 @@ returns-2 c =
     let p = s .args .at in
     let o = s .args .state .now in
     let a = s .args .room .now in
-    announced-right p o a (s .args .k) (s .args .row) (s .args .len) (s .args .n) (c .before .before .before .before .before .before .before .before .length-fault .ensures) (c .before .before .before .before .before .before .before .if1 .left) (c .before .before .before .before .open-parts .ensures)
+    announced-right p o a (s .args .k) (s .args .row) (s .args .low) (s .args .high) (s .args .n) (c .before .before .before .before .before .before .before .before .length-fault .ensures) (c .before .before .before .before .before .before .before .if1 .left) (c .before .before .before .before .open-parts .ensures)
 
 pub open-announced-spec : {M : Type 1} → statement M
 open-announced-spec =

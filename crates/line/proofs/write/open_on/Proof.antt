@@ -2,7 +2,7 @@
 use mathlib.Core.Path.{_≡_, ap, _∙_}
 use Prim.Native.Nat.{_≤_}
 use native.Mathlib.Omega.{arith}
-use Rattle.find.proofs.Shapes.{len-told}
+use Rattle.find.proofs.Shapes.{smallest-told, largest-told}
 use Rattle.sdo.specs.declared.Opening.{Opening}
 use Rattle.sdo.specs.declared.Heard.the-variants.{Asks}
 use Rattle.sdo.specs.declared.Message.the-variants.{OpenWrite}
@@ -11,56 +11,65 @@ use Rattle.transfer.proofs.RecordLaws.{found-key}
 use Rattle.line.proofs.Told.{room-of}
 use Rattle.line.proofs.Writing.{row-most}
 use Rattle.line.proofs.Speaking.{said-value, said-own, said-announced, said-unsaid}
+use Rattle.table.specs.Rows.{at-row}
+use Rattle.table.proofs.Lengths.{largest-is, room-allowed}
 use borrow.Author.Needs.{needs}
 use Rattle.line.proofs.write.open_on.Statement.{statement}
 use Rattle.line.proofs.write.open_on.Tie as tie
 
-len-in-requires : tie.Need-len-in-requires
-len-in-requires c κs = search needs
+smallest-in-requires : tie.Need-smallest-in-requires
+smallest-in-requires c κs = search needs
+
+largest-in-requires : tie.Need-largest-in-requires
+largest-in-requires c κs = search needs
 
 enum-known-opening : tie.Need-enum-known-opening
 enum-known-opening c = search needs
 
 write-sized-requires : tie.Need-write-sized-requires
 write-sized-requires c κs =
-    let s = c .before .before .before .before .before .before .before .before .before .before .before .before .before in
+    let s = c .before .before .before .before .before .before .before .before .before .before .before .before .before .before in
     let row = s .args .row in
     let h = s .pre .1 in
-    let l = len-told row (h .0 .there) (h .2) (c .before .before .before .before .before .before .before .len-in .ensures) in
-    (s .pre .0, (h .0, found-key (s .args .k) row (h .1)), l, omega (arith, s .pre .2, value-count (s .args .m .now) (s .args .k) (c .before .before .before .before .before .opening .given .0 .0) (s .pre .3 ∙ ap (λ (q : Opening). Asks (OpenWrite (s .args .k) q)) (c .before .before .before .before .before .opening .given .1))))
+    let l = smallest-told row (h .0 .there) (h .2) (c .before .before .before .before .before .before .before .before .smallest-in .ensures) in
+    let g = largest-told row (h .0 .there) (h .2) (c .before .before .before .before .before .before .before .largest-in .ensures) in
+    (s .pre .0, (h .0, found-key (s .args .k) row (h .1)), (l, g), omega (arith, s .pre .2, value-count (s .args .m .now) (s .args .k) (c .before .before .before .before .before .opening .given .0 .0) (s .pre .3 ∙ ap (λ (q : Opening). Asks (OpenWrite (s .args .k) q)) (c .before .before .before .before .before .opening .given .1))))
 
 enum-told : tie.Need-enum-told
 enum-told c = search needs
 
 write-own-requires : tie.Need-write-own-requires
 write-own-requires c κs =
-    let s = c .before .before .before .before .before .before .before .before .before .before .before .before in
+    let s = c .before .before .before .before .before .before .before .before .before .before .before .before .before in
     let row = s .args .row in
     let h = s .pre .1 in
-    let l = len-told row (h .0 .there) (h .2) (c .before .before .before .before .before .before .len-in .ensures) in
-    (s .pre .0, (h .0, found-key (s .args .k) row (h .1)), l, omega (arith, s .pre .2))
+    let l = smallest-told row (h .0 .there) (h .2) (c .before .before .before .before .before .before .before .smallest-in .ensures) in
+    let g = largest-told row (h .0 .there) (h .2) (c .before .before .before .before .before .before .largest-in .ensures) in
+    (s .pre .0, (h .0, found-key (s .args .k) row (h .1)), g, omega (arith, s .pre .2))
 
 enum-known-opening-2 : tie.Need-enum-known-opening-2
 enum-known-opening-2 c = search needs
 
 open-announced-requires : tie.Need-open-announced-requires
 open-announced-requires c κs =
-    let s = c .before .before .before .before .before .before .before .before .before .before .before in
+    let s = c .before .before .before .before .before .before .before .before .before .before .before .before in
     let row = s .args .row in
     let h = s .pre .1 in
-    let l = len-told row (h .0 .there) (h .2) (c .before .before .before .before .before .len-in .ensures) in
-    (room-of (s .pre .0), row-most (h .0) l)
+    let l = smallest-told row (h .0 .there) (h .2) (c .before .before .before .before .before .before .smallest-in .ensures) in
+    let g = largest-told row (h .0 .there) (h .2) (c .before .before .before .before .before .largest-in .ensures) in
+    (room-of (s .pre .0), row-most (h .0) (room-allowed (at-row row) (g ∙ largest-is (at-row row))))
 
 enum-told-2 : tie.Need-enum-told-2
 enum-told-2 c = search needs
 
 open-parts-requires : tie.Need-open-parts-requires
 open-parts-requires c κs =
-    let s = c .before .before .before .before .before .before .before .before .before .before in
+    let s = c .before .before .before .before .before .before .before .before .before .before .before in
     let row = s .args .row in
     let h = s .pre .1 in
-    let l = len-told row (h .0 .there) (h .2) (c .before .before .before .before .len-in .ensures) in
-    (room-of (s .pre .0), row-most (h .0) l)
+    let l = smallest-told row (h .0 .there) (h .2) (c .before .before .before .before .before .smallest-in .ensures) in
+    let g = largest-told row (h .0 .there) (h .2) (c .before .before .before .before .largest-in .ensures) in
+    (room-of (s .pre .0), row-most (h .0) (room-allowed (at-row row) (g ∙ largest-is (at-row row))))
 
 same-length : tie.Need-same-length
 same-length c = search needs
@@ -76,7 +85,7 @@ same-length-4 c = search needs
 
 returns : tie.Need-returns
 returns c =
-    let s = c .before .before .before .before .before .before .before .before .before .before .before .before .before .before .before .before .before .before .before .before .before .before in
+    let s = c .before .before .before .before .before .before .before .before .before .before .before .before .before .before .before .before .before .before .before .before .before .before .before in
     let p = s .args .at in
     let v = s .args .values .now in
     let b = s .args .block .now in
@@ -84,10 +93,11 @@ returns c =
     let a = s .args .room .now in
     let row = s .args .row in
     let h = s .pre .1 in
-    let l = len-told row (h .0 .there) (h .2) (c .before .before .before .before .before .before .before .before .before .before .before .before .before .before .before .before .len-in .ensures) in
+    let l = smallest-told row (h .0 .there) (h .2) (c .before .before .before .before .before .before .before .before .before .before .before .before .before .before .before .before .before .smallest-in .ensures) in
+    let g = largest-told row (h .0 .there) (h .2) (c .before .before .before .before .before .before .before .before .before .before .before .before .before .before .before .before .largest-in .ensures) in
     let m = s .args .m .now in
     let k = s .args .k in
-    said-value p v b o a m k row (c .before .before .before .before .before .before .before .before .before .before .before .before .before .before .before .before .len-in .result) (h .0) (h .1) l (c .before .before .before .before .before .before .before .before .before .before .before .before .before .before .opening .given .0 .0) (s .pre .3 ∙ ap (λ (q : Opening). Asks (OpenWrite (s .args .k) q)) (c .before .before .before .before .before .before .before .before .before .before .before .before .before .before .opening .given .1)) (c .before .before .before .before .before .before .before .before .write-sized .ensures)
+    said-value p v b o a m k row (c .before .before .before .before .before .before .before .before .before .before .before .before .before .before .before .before .before .smallest-in .result) (c .before .before .before .before .before .before .before .before .before .before .before .before .before .before .before .before .largest-in .result) (h .0) (h .1) l g (c .before .before .before .before .before .before .before .before .before .before .before .before .before .before .opening .given .0 .0) (s .pre .3 ∙ ap (λ (q : Opening). Asks (OpenWrite (s .args .k) q)) (c .before .before .before .before .before .before .before .before .before .before .before .before .before .before .opening .given .1)) (c .before .before .before .before .before .before .before .before .write-sized .ensures)
 
 same-length-5 : tie.Need-same-length-5
 same-length-5 c = search needs
@@ -103,7 +113,7 @@ same-length-8 c = search needs
 
 returns-2 : tie.Need-returns-2
 returns-2 c =
-    let s = c .before .before .before .before .before .before .before .before .before .before .before .before .before .before .before .before .before .before .before .before .before in
+    let s = c .before .before .before .before .before .before .before .before .before .before .before .before .before .before .before .before .before .before .before .before .before .before in
     let p = s .args .at in
     let v = s .args .values .now in
     let b = s .args .block .now in
@@ -111,10 +121,11 @@ returns-2 c =
     let a = s .args .room .now in
     let row = s .args .row in
     let h = s .pre .1 in
-    let l = len-told row (h .0 .there) (h .2) (c .before .before .before .before .before .before .before .before .before .before .before .before .before .before .before .len-in .ensures) in
+    let l = smallest-told row (h .0 .there) (h .2) (c .before .before .before .before .before .before .before .before .before .before .before .before .before .before .before .before .smallest-in .ensures) in
+    let g = largest-told row (h .0 .there) (h .2) (c .before .before .before .before .before .before .before .before .before .before .before .before .before .before .before .largest-in .ensures) in
     let m = s .args .m .now in
     let k = s .args .k in
-    said-own p v b o a m k row (c .before .before .before .before .before .before .before .before .before .before .before .before .before .before .before .len-in .result) (h .0) (h .1) l (s .pre .3 ∙ ap (λ (q : Opening). Asks (OpenWrite (s .args .k) q)) (c .before .before .before .before .before .before .before .before .before .before .before .before .before .enum-told .given .1)) (c .before .before .before .before .before .before .before .before .write-own .ensures)
+    said-own p v b o a m k row (c .before .before .before .before .before .before .before .before .before .before .before .before .before .before .before .before .smallest-in .result) (c .before .before .before .before .before .before .before .before .before .before .before .before .before .before .before .largest-in .result) (h .0) (h .1) l g (s .pre .3 ∙ ap (λ (q : Opening). Asks (OpenWrite (s .args .k) q)) (c .before .before .before .before .before .before .before .before .before .before .before .before .before .enum-told .given .1)) (c .before .before .before .before .before .before .before .before .write-own .ensures)
 
 same-length-9 : tie.Need-same-length-9
 same-length-9 c = search needs
@@ -124,7 +135,7 @@ same-length-10 c = search needs
 
 returns-3 : tie.Need-returns-3
 returns-3 c =
-    let s = c .before .before .before .before .before .before .before .before .before .before .before .before .before .before .before .before in
+    let s = c .before .before .before .before .before .before .before .before .before .before .before .before .before .before .before .before .before in
     let p = s .args .at in
     let v = s .args .values .now in
     let b = s .args .block .now in
@@ -132,10 +143,11 @@ returns-3 c =
     let a = s .args .room .now in
     let row = s .args .row in
     let h = s .pre .1 in
-    let l = len-told row (h .0 .there) (h .2) (c .before .before .before .before .before .before .before .before .before .before .len-in .ensures) in
+    let l = smallest-told row (h .0 .there) (h .2) (c .before .before .before .before .before .before .before .before .before .before .before .smallest-in .ensures) in
+    let g = largest-told row (h .0 .there) (h .2) (c .before .before .before .before .before .before .before .before .before .before .largest-in .ensures) in
     let m = s .args .m .now in
     let k = s .args .k in
-    said-announced p v b o a m k row (c .before .before .before .before .before .before .before .before .before .before .len-in .result) (h .0) (h .1) l (c .before .before .before .before .before .before .before .before .opening2 .given .0 .0) (s .pre .3 ∙ ap (λ (q : Opening). Asks (OpenWrite (s .args .k) q)) (c .before .before .before .before .before .before .before .before .opening2 .given .1)) (c .before .before .before .before .open-announced .ensures)
+    said-announced p v b o a m k row (c .before .before .before .before .before .before .before .before .before .before .before .smallest-in .result) (c .before .before .before .before .before .before .before .before .before .before .largest-in .result) (h .0) (h .1) l g (c .before .before .before .before .before .before .before .before .opening2 .given .0 .0) (s .pre .3 ∙ ap (λ (q : Opening). Asks (OpenWrite (s .args .k) q)) (c .before .before .before .before .before .before .before .before .opening2 .given .1)) (c .before .before .before .before .open-announced .ensures)
 
 same-length-11 : tie.Need-same-length-11
 same-length-11 c = search needs
@@ -145,7 +157,7 @@ same-length-12 c = search needs
 
 returns-4 : tie.Need-returns-4
 returns-4 c =
-    let s = c .before .before .before .before .before .before .before .before .before .before .before .before .before .before .before in
+    let s = c .before .before .before .before .before .before .before .before .before .before .before .before .before .before .before .before in
     let p = s .args .at in
     let v = s .args .values .now in
     let b = s .args .block .now in
@@ -153,16 +165,18 @@ returns-4 c =
     let a = s .args .room .now in
     let row = s .args .row in
     let h = s .pre .1 in
-    let l = len-told row (h .0 .there) (h .2) (c .before .before .before .before .before .before .before .before .before .len-in .ensures) in
+    let l = smallest-told row (h .0 .there) (h .2) (c .before .before .before .before .before .before .before .before .before .before .smallest-in .ensures) in
+    let g = largest-told row (h .0 .there) (h .2) (c .before .before .before .before .before .before .before .before .before .largest-in .ensures) in
     let m = s .args .m .now in
     let k = s .args .k in
-    said-unsaid p v b o a m k row (c .before .before .before .before .before .before .before .before .before .len-in .result) (h .0) (h .1) l (s .pre .3 ∙ ap (λ (q : Opening). Asks (OpenWrite (s .args .k) q)) (c .before .before .before .before .before .before .before .enum-told2 .given .1)) (c .before .before .before .before .open-parts .ensures)
+    said-unsaid p v b o a m k row (c .before .before .before .before .before .before .before .before .before .before .smallest-in .result) (c .before .before .before .before .before .before .before .before .before .largest-in .result) (h .0) (h .1) l g (s .pre .3 ∙ ap (λ (q : Opening). Asks (OpenWrite (s .args .k) q)) (c .before .before .before .before .before .before .before .enum-told2 .given .1)) (c .before .before .before .before .open-parts .ensures)
 
 pub open-on-spec : {M : Type 1} → statement M
 open-on-spec =
     tie.close
     (tie.spec
-    len-in-requires
+    smallest-in-requires
+    largest-in-requires
     enum-known-opening
     write-sized-requires
     enum-told

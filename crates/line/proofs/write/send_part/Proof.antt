@@ -21,7 +21,7 @@ take-last-requires c κs =
     let t = c .before .before .before .before .before .before .before .before .record-at .result in
     let e = said (c .before .before .before .before .before .before .before .writing .ensures) (c .before .before .before .before .before .before .if1 .taken) in
     let f = held-fits t (is-writing (t .direction)) e in
-    (s .pre .0, s .pre .1, writing-row t e, f .length-is, f .place-in, c .before .before .before .before .before .before .before .before .record-at .ensures)
+    (s .pre .0, s .pre .1, writing-row t e, f .fitting-length, f .place-in, c .before .before .before .before .before .before .before .before .record-at .ensures)
 
 same-length : tie.Need-same-length
 same-length c = search needs
@@ -53,7 +53,7 @@ take-more-requires c κs =
     let t = c .before .before .before .before .before .before .record-at .result in
     let e = said (c .before .before .before .before .before .writing .ensures) (c .before .before .before .before .if1 .taken) in
     let f = held-fits t (is-writing (t .direction)) e in
-    (room-of (s .pre .0), s .pre .1, writing-row t e, f .length-is, f .place-in, c .before .before .before .before .before .before .record-at .ensures)
+    (room-of (s .pre .0), s .pre .1, writing-row t e, f .fitting-length, f .place-in, c .before .before .before .before .before .before .record-at .ensures)
 
 same-length-5 : tie.Need-same-length-5
 same-length-5 c = search needs

@@ -79,7 +79,8 @@ conclude-requires c κs =
     let s = c .before .before .before .before .before .before .before .before .before .before .before .before .before .before .before .before .before .before .before .before in
     let near = c .before .before .before .before .before .before .before .before .before .before .grown .ok in
     let whole : length (c .before .before .before .before .before .before .before .before .before .before .grown .result .held) ≡ 64 = search needs in
-    (search needs, s .pre .2, length-take-le (s .args .t .len) (c .before .before .before .before .before .before .before .before .before .before .grown .result .held) (omega (arith, row-most (s .pre .2) (s .pre .3))) ∙ s .pre .3)
+    let long = length-take-le (s .args .t .len) (c .before .before .before .before .before .before .before .before .before .before .grown .result .held) (omega (arith, row-most (s .pre .2) (s .pre .3))) in
+    (search needs, s .pre .2, record { enough = omega (arith, long, s .pre .3 .enough); not-over = omega (arith, long, s .pre .3 .not-over) })
 
 same-length-3 : tie.Need-same-length-3
 same-length-3 c = search needs

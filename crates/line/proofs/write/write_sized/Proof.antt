@@ -35,7 +35,7 @@ returns c =
     let at = s .args .from in
     let bytes = take n (drop at m) in
     let long : length bytes ≡ n = part-length m at n (s .pre .3) in
-    sized-refused p v b o a (s .args .k) (s .args .len) bytes n (c .before .before .before .before .before .before .before .before .length-fault .ensures) (c .before .before .before .before .before .before .before .if1 .taken) (c .before .before .before .before .refused .ensures)
+    sized-refused p v b o a (s .args .k) bytes (s .args .low) (s .args .high) n (c .before .before .before .before .before .before .before .before .length-fault .ensures) (c .before .before .before .before .before .before .before .if1 .taken) (c .before .before .before .before .refused .ensures)
 
 add-with-value : tie.Need-add-with-value
 add-with-value c = search needs
@@ -52,8 +52,12 @@ part-with-value-end c = search needs
 with-value-requires : tie.Need-with-value-requires
 with-value-requires c κs =
     let s = c .before .before .before .before .before .before .before .before .before .before .before .before in
-    let within = no-fault (s .args .len) (s .args .len) (s .args .count) (c .before .before .before .before .before .before .length-fault .ensures) (c .before .before .before .before .before .if1 .left) in
-    (s .pre .0, s .pre .1, part-length (s .args .m .now) (s .args .from) (s .args .from + s .args .count - s .args .from) (omega (arith, s .pre .3)) ∙ omega (arith, within .0, within .1, s .pre .2))
+    let within = no-fault (s .args .low) (s .args .high) (s .args .count) (c .before .before .before .before .before .before .length-fault .ensures) (c .before .before .before .before .before .if1 .left) in
+    let m = s .args .m .now in
+    let f = s .args .from in
+    let n = s .args .count in
+    let long : length (take (f + n - f) (drop f m)) ≡ n = part-length m f (f + n - f) (omega (arith, s .pre .3)) ∙ omega arith in
+    (s .pre .0, s .pre .1, record { enough = omega (arith, long, within .0, s .pre .2 .0); not-over = omega (arith, long, within .1, s .pre .2 .1) })
 
 same-length-3 : tie.Need-same-length-3
 same-length-3 c = search needs
@@ -81,7 +85,7 @@ returns-2 c =
     let bytes = take n (drop at m) in
     let long : length bytes ≡ n = part-length m at n (s .pre .3) in
     let same : at + n - at ≡ n = omega arith in
-    sized-right p v b o a (s .args .k) (s .args .len) bytes n (c .before .before .before .before .before .before .before .before .before .before .before .before .before .before .before .length-fault .ensures) (c .before .before .before .before .before .before .before .before .before .before .before .before .before .before .if1 .left) long (ap (λ (j : ℕ). take j (drop at m)) same) (c .before .before .before .before .before .before .before .before .with-value .ensures)
+    sized-right p v b o a (s .args .k) bytes (s .args .low) (s .args .high) n (c .before .before .before .before .before .before .before .before .before .before .before .before .before .before .before .length-fault .ensures) (c .before .before .before .before .before .before .before .before .before .before .before .before .before .before .if1 .left) long (ap (λ (j : ℕ). take j (drop at m)) same) (c .before .before .before .before .before .before .before .before .with-value .ensures)
 
 pub write-sized-spec : {M : Type 1} → statement M
 write-sized-spec =
