@@ -16,11 +16,10 @@ use Rattle.bits.proofs.Parts.{field-fits}
 use Rattle.bits.specs.Bits.{msb, bits, num, field, packed, Small}
 use Rattle.block.specs.Asked.{Sized, entry-len}
 use Rattle.block.specs.Block.{width, entry-bits, entry-bytes, within}
-use Rattle.entry.proofs.RowLaws.{no-number, bool-within}
-use Rattle.entry.specs.Entry.{number-len}
-use Rattle.entry.specs.Limits.{verdict-code}
-use Rattle.entry.specs.declared.limits.Verdict.{Verdict}
-use Rattle.entry.specs.declared.limits.Verdict.the-variants.{Within, NotANumber, Above, Below}
+use Rattle.limits.proofs.RowVerdicts.{no-number, bool-within}
+use Rattle.limits.specs.Limits.{number-len, verdict-code}
+use Rattle.limits.specs.declared.Verdict.{Verdict}
+use Rattle.limits.specs.declared.Verdict.the-variants.{Within, NotANumber, Above, Below}
 use Rattle.table.proofs.Walks.{lt-or-ge}
 use Rattle.table.specs.Row.{Row, BOOL, REAL}
 use Rattle.wire.proofs.LittleLaws.{Bytes, length-little, from-little, little-from, number-lt}

@@ -14,11 +14,10 @@ use Rattle.block.proofs.Entries.{number-or-string, no-code, number-narr
 use Rattle.block.proofs.Kept.{Kept}
 use Rattle.block.specs.Asked.{cut, lowest, highest, between}
 use Rattle.block.specs.Block.{row-width, within}
-use Rattle.entry.proofs.NumberLaws.{len-most}
-use Rattle.entry.proofs.RowLaws.{ranked-within, within-ranked}
-use Rattle.entry.specs.Entry.{number-len}
-use Rattle.entry.specs.Limits.{verdict-code}
-use Rattle.entry.specs.declared.limits.Verdict.{Verdict}
+use Rattle.limits.proofs.NumberLaws.{len-most}
+use Rattle.limits.proofs.RowVerdicts.{ranked-within, within-ranked}
+use Rattle.limits.specs.Limits.{number-len, verdict-code}
+use Rattle.limits.specs.declared.Verdict.{Verdict}
 use Rattle.table.proofs.Rules.{RowRule}
 use Rattle.table.proofs.Walks.{lt-or-ge}
 use Rattle.table.specs.Row.{Row, REAL}

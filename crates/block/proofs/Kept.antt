@@ -6,8 +6,8 @@ use borrow.Author.Tests.{le-leb, lt-leb}
 use Rattle.block.proofs.Entries.{number-or-string, width-bytes}
 use Rattle.block.specs.Asked.{Sized, entry-len}
 use Rattle.block.specs.Block.{row-width}
-use Rattle.entry.proofs.NumberLaws.{len-most, number-long}
-use Rattle.entry.specs.Entry.{number-len}
+use Rattle.limits.proofs.NumberLaws.{len-most, number-long}
+use Rattle.limits.specs.Limits.{number-len}
 use Rattle.table.proofs.Rules.{RowRule}
 use Rattle.table.specs.Row.{Row, BOOL, REAL, CARD}
 use Rattle.table.specs.Rule.{pick, held}

@@ -18,14 +18,14 @@ use Rattle.block.proofs.Tables.{Among, nv-among, nv-clear, table-rises}
 use Rattle.block.proofs.Turns.{nv-keep, used, kept-at}
 use Rattle.block.proofs.Walking.{length-saved}
 use Rattle.block.specs.Block.{LAYOUT, BAG552, part, entry-bits, widths, saved, load-rows, values-good, block-of, good}
-use Rattle.block.specs.Saved.{nv, storable, stored, loadable, loaded}
+use Rattle.block.specs.Saved.{saved-rows, storable, stored-block, loadable, loaded}
 use Rattle.entry.specs.Entry.{entry-of}
 use Rattle.table.proofs.Table.{rows-pass, rows-length, disjoint}
 use Rattle.table.specs.Row.{Row, no-row}
 use Rattle.table.specs.Rows.{rows, row-count, at-row}
 use Rattle.table.specs.Rule.{held}
 
-nv-rise : Rising 0 nv
+nv-rise : Rising 0 saved-rows
 nv-rise = table-rises rows rows-pass
 
 -- ---- the block of any values
@@ -40,34 +40,34 @@ unfolding Small
 small-zeros zero = tt
 small-zeros (suc n) = (lit< tt, small-zeros n)
 
-small-block : (values : List ℕ) → Small (block-of BAG552 values nv)
+small-block : (values : List ℕ) → Small (block-of BAG552 values saved-rows)
 unfolding block-of
 small-block values =
-    let s : List ℕ = saved values nv in
-    let z : List ℕ = replicate (4096 - (8 + widths nv)) 0 in
+    let s : List ℕ = saved values saved-rows in
+    let z : List ℕ = replicate (4096 - (8 + widths saved-rows)) 0 in
     small-append (msb 4 LAYOUT) (msb 4 BAG552 ++ (s ++ z)) (small-msb 4 LAYOUT)
-    (small-append (msb 4 BAG552) (s ++ z) (small-msb 4 BAG552) (small-append s z (small-saved values nv) (small-zeros (4096 - (8 + widths nv)))))
+    (small-append (msb 4 BAG552) (s ++ z) (small-msb 4 BAG552) (small-append s z (small-saved values saved-rows) (small-zeros (4096 - (8 + widths saved-rows)))))
 
-length-block : (values : List ℕ) → length values ≡ 1024 → length (block-of BAG552 values nv) ≡ 4096
+length-block : (values : List ℕ) → length values ≡ 1024 → length (block-of BAG552 values saved-rows) ≡ 4096
 unfolding block-of
 length-block values n =
-    let s : List ℕ = saved values nv in
-    let z : List ℕ = replicate (4096 - (8 + widths nv)) 0 in
-    omega (arith, length-append (msb 4 LAYOUT) (msb 4 BAG552 ++ (s ++ z)), length-append (msb 4 BAG552) (s ++ z), length-append s z, length-msb 4 LAYOUT, length-msb 4 BAG552, length-saved values nv nv-keep n, length-replicate {A = ℕ} (4096 - (8 + widths nv)) 0, used)
+    let s : List ℕ = saved values saved-rows in
+    let z : List ℕ = replicate (4096 - (8 + widths saved-rows)) 0 in
+    omega (arith, length-append (msb 4 LAYOUT) (msb 4 BAG552 ++ (s ++ z)), length-append (msb 4 BAG552) (s ++ z), length-append s z, length-msb 4 LAYOUT, length-msb 4 BAG552, length-saved values saved-rows nv-keep n, length-replicate {A = ℕ} (4096 - (8 + widths saved-rows)) 0, used)
 
-bits-block : (values : List ℕ) → length values ≡ 1024 → bits (packed 512 (block-of BAG552 values nv)) ≡ block-of BAG552 values nv
+bits-block : (values : List ℕ) → length values ≡ 1024 → bits (packed 512 (block-of BAG552 values saved-rows)) ≡ block-of BAG552 values saved-rows
 bits-block values n =
-    let l : length (block-of BAG552 values nv) ≡ 4096 = length-block values n in
-    bits-packed 512 (block-of BAG552 values nv) (small-block values) (omega arith)
-    ∙ take-all 4096 (block-of BAG552 values nv) (omega arith)
+    let l : length (block-of BAG552 values saved-rows) ≡ 4096 = length-block values n in
+    bits-packed 512 (block-of BAG552 values saved-rows) (small-block values) (omega arith)
+    ∙ take-all 4096 (block-of BAG552 values saved-rows) (omega arith)
 
 -- ---- lengths
 
-pub length-stored : (values block : List ℕ) → length block ≡ 512 → length (stored values block) ≡ 512
-unfolding stored
+pub length-stored : (values block : List ℕ) → length block ≡ 512 → length (stored-block values block) ≡ 512
+unfolding stored-block
 length-stored values block n = go (storable values)
   where
-    go : (b : Bool) → length (cond b (packed 512 (block-of BAG552 values nv)) block) ≡ 512
+    go : (b : Bool) → length (cond b (packed 512 (block-of BAG552 values saved-rows)) block) ≡ 512
     go true = length-packed 512 _
     go false = n
 
@@ -75,8 +75,8 @@ pub length-loaded : (block values : List ℕ) → length values ≡ 1024 → len
 unfolding loaded
 length-loaded block values n = go (loadable block)
   where
-    go : (b : Bool) → length (cond b (load-rows (bits block) 8 nv values) values) ≡ 1024
-    go true = length-load (bits block) 8 nv values nv-keep n
+    go : (b : Bool) → length (cond b (load-rows (bits block) 8 saved-rows values) values) ≡ 1024
+    go true = length-load (bits block) 8 saved-rows values nv-keep n
     go false = n
 
 -- ---- load after store
@@ -86,64 +86,64 @@ unfolding entry-of
 entry-part values k h m = ap (λ (n : ℕ). take n (drop (at-row k .place) values)) (kept-at k h m .held-all)
 
 module _ (values block : List ℕ) (hb : Bytes values) (hn : length values ≡ 1024) (ok : storable values ≡ true) where
-  stored-is : stored values block ≡ packed 512 (block-of BAG552 values nv)
-  unfolding stored
+  stored-is : stored-block values block ≡ packed 512 (block-of BAG552 values saved-rows)
+  unfolding stored-block
   stored-is = rw ok
 
-  stored-bits : bits (stored values block) ≡ block-of BAG552 values nv
+  stored-bits : bits (stored-block values block) ≡ block-of BAG552 values saved-rows
   stored-bits = ap bits stored-is ∙ bits-block values hn
 
   -- what was stored is not faulty
-  pub stored-loadable : loadable (stored values block) ≡ true
+  pub stored-loadable : loadable (stored-block values block) ≡ true
   unfolding loadable storable
-  stored-loadable = ap (λ (b : List ℕ). good BAG552 b nv) stored-bits ∙ stored-good values hb hn BAG552 nv nv-keep ok (lit< tt)
+  stored-loadable = ap (λ (b : List ℕ). good BAG552 b saved-rows) stored-bits ∙ stored-good values hb hn BAG552 saved-rows nv-keep ok (lit< tt)
 
-  loaded-is : (others : List ℕ) → loaded (stored values block) others ≡ copy-rows values nv others
+  loaded-is : (others : List ℕ) → loaded (stored-block values block) others ≡ copy-rows values saved-rows others
   unfolding loaded storable
   loaded-is others =
-      rw stored-loadable (ap (λ (b : List ℕ). load-rows b 8 nv others) stored-bits ∙ load-stored values hb hn BAG552 nv nv-keep ok others)
+      rw stored-loadable (ap (λ (b : List ℕ). load-rows b 8 saved-rows others) stored-bits ∙ load-stored values hb hn BAG552 saved-rows nv-keep ok others)
 
   -- every NV entry is as it was at the store, whatever the values became
   pub load-restores : (others : List ℕ) → length others ≡ 1024 → (k : ℕ) → k < row-count → at-row k .nv ≡ 1
-      → entry-of (at-row k) (loaded (stored values block) others) ≡ entry-of (at-row k) values
+      → entry-of (at-row k) (loaded (stored-block values block) others) ≡ entry-of (at-row k) values
   load-restores others n k h m =
-      let a : Among nv (at-row k) = nv-among rows k (omega (arith, rows-length)) m in
-      let e : part (copy-rows values nv others) (getD nv (a .nth) no-row) ≡ part values (getD nv (a .nth) no-row) =
-      copied-entry values nv 0 others nv-keep nv-rise hn n (a .nth) (a .there) in
-      entry-part (loaded (stored values block) others) k h m
+      let a : Among saved-rows (at-row k) = nv-among rows k (omega (arith, rows-length)) m in
+      let e : part (copy-rows values saved-rows others) (getD saved-rows (a .nth) no-row) ≡ part values (getD saved-rows (a .nth) no-row) =
+      copied-entry values saved-rows 0 others nv-keep nv-rise hn n (a .nth) (a .there) in
+      entry-part (loaded (stored-block values block) others) k h m
       ∙ ap (λ (v : List ℕ). part v (at-row k)) (loaded-is others)
       ∙ (rw (a .is) at e)
       ∙ sym (entry-part values k h m)
 
   -- and the values themselves are left
-  pub load-leaves : loaded (stored values block) values ≡ values
-  load-leaves = loaded-is values ∙ copy-own values nv nv-keep hn
+  pub load-leaves : loaded (stored-block values block) values ≡ values
+  load-leaves = loaded-is values ∙ copy-own values saved-rows nv-keep hn
 
 -- a store that is refused writes nothing
-pub refused-leaves : (values block : List ℕ) → storable values ≡ false → stored values block ≡ block
-unfolding stored
+pub refused-leaves : (values block : List ℕ) → storable values ≡ false → stored-block values block ≡ block
+unfolding stored-block
 refused-leaves values block e = rw e
 
 -- ---- store after load
 
 module _ (block values : List ℕ) (hb : Bytes block) (lb : length block ≡ 512) (hn : length values ≡ 1024) (ok : loadable block ≡ true) where
-  loaded-all : loaded block values ≡ load-rows (bits block) 8 nv values
+  loaded-all : loaded block values ≡ load-rows (bits block) 8 saved-rows values
   unfolding loaded
   loaded-all = rw ok
 
   pub loaded-storable : storable (loaded block values) ≡ true
   unfolding storable loadable
   loaded-storable =
-      ap (λ (v : List ℕ). values-good v nv) loaded-all
-      ∙ loaded-good (bits block) (small-bits block) BAG552 nv values nv-keep nv-rise hn (length-bits block ∙ ap (λ (n : ℕ). 8 * n) lb) used ok
+      ap (λ (v : List ℕ). values-good v saved-rows) loaded-all
+      ∙ loaded-good (bits block) (small-bits block) BAG552 saved-rows values nv-keep nv-rise hn (length-bits block ∙ ap (λ (n : ℕ). 8 * n) lb) used ok
 
   -- the same 512 bytes
-  pub store-after-load : (old : List ℕ) → stored (loaded block values) old ≡ block
-  unfolding stored loadable
+  pub store-after-load : (old : List ℕ) → stored-block (loaded block values) old ≡ block
+  unfolding stored-block loadable
   store-after-load old =
       rw loaded-storable
-      (ap (λ (v : List ℕ). packed 512 (block-of BAG552 v nv)) loaded-all
-      ∙ ap (packed 512) (store-loaded (bits block) (small-bits block) BAG552 nv values nv-keep nv-rise hn (length-bits block ∙ ap (λ (n : ℕ). 8 * n) lb) used ok)
+      (ap (λ (v : List ℕ). packed 512 (block-of BAG552 v saved-rows)) loaded-all
+      ∙ ap (packed 512) (store-loaded (bits block) (small-bits block) BAG552 saved-rows values nv-keep nv-rise hn (length-bits block ∙ ap (λ (n : ℕ). 8 * n) lb) used ok)
       ∙ ap (λ (n : ℕ). packed n (bits block)) (sym lb)
       ∙ bytes-of block hb)
 
@@ -154,7 +154,7 @@ faulty-leaves block values e = rw e
 
 -- ---- an entry without NV mark is never touched
 
-other-clear : (k : ℕ) → k < row-count → (at-row k .nv ≡ 1 → ⊥) → Clear nv (at-row k .place) (held (at-row k))
+other-clear : (k : ℕ) → k < row-count → (at-row k .nv ≡ 1 → ⊥) → Clear saved-rows (at-row k .place) (held (at-row k))
 other-clear k h d =
     nv-clear rows (at-row k .place) (held (at-row k))
     (λ j l m.
@@ -167,6 +167,6 @@ pub load-other : (block values : List ℕ) → length values ≡ 1024 → (k : �
 unfolding loaded entry-of
 load-other block values n k h d = go (loadable block)
   where
-    go : (b : Bool) → take (held (at-row k)) (drop (at-row k .place) (cond b (load-rows (bits block) 8 nv values) values)) ≡ take (held (at-row k)) (drop (at-row k .place) values)
-    go true = load-beside (bits block) 8 nv values (at-row k .place) (held (at-row k)) nv-keep (other-clear k h d) n
+    go : (b : Bool) → take (held (at-row k)) (drop (at-row k .place) (cond b (load-rows (bits block) 8 saved-rows values) values)) ≡ take (held (at-row k)) (drop (at-row k .place) values)
+    go true = load-beside (bits block) 8 saved-rows values (at-row k .place) (held (at-row k)) nv-keep (other-clear k h d) n
     go false = refl

@@ -20,8 +20,8 @@ use Rattle.block.proofs.Walking.{Keeps, keeps-at, keeps-take, fits, par
 use Rattle.block.proofs.Zeros.{zero-behind}
 use Rattle.block.specs.Asked.{Fields, cut, Cuts, Places, lowest, highest, Limits, Sized, fresh-bytes, entry-len, between, held-front, saved-front, saved-numbers, Front}
 use Rattle.block.specs.Block.{width, row-width, part, entry-bits, entry-bytes, within, nv-rows, widths, saved, load-rows, all-zero}
-use Rattle.block.specs.Saved.{nv}
-use Rattle.entry.specs.Entry.{number-len}
+use Rattle.block.specs.Saved.{saved-rows}
+use Rattle.limits.specs.Limits.{number-len}
 use Rattle.table.proofs.Table.{rows-pass, row-rule}
 use Rattle.table.proofs.Walks.{lt-or-ge, every-at}
 use Rattle.table.specs.Row.{Row, no-row, REAL}
@@ -34,31 +34,31 @@ use Rattle.wire.specs.Splice.{splice}
 
 -- ---- the table's NV rows
 
-pub nv-keep : Keeps nv
+pub nv-keep : Keeps saved-rows
 nv-keep = table-keeps rows rows-pass
 
-pub used : 8 + widths nv ≤ 4096
+pub used : 8 + widths saved-rows ≤ 4096
 used = table-used rows rows-pass
 
 pub kept-at : (i : ℕ) → i < row-count → at-row i .nv ≡ 1 → Kept (at-row i)
 kept-at i h m = kept (at-row i) (row-rule i h) m
 
 -- as many as the code counts, and their entries end where it says
-pub nv-length : length nv ≡ nv-count
+pub nv-length : length saved-rows ≡ nv-count
 unfolding rows nv-rows
 nv-length = refl
 
-pub nv-ends : 8 + widths nv ≡ nv-end
+pub nv-ends : 8 + widths saved-rows ≡ nv-end
 unfolding rows nv-rows widths width
 nv-ends = refl
 
 abbrev pub at-nv : ℕ → Row
-at-nv i = getD nv i no-row
+at-nv i = getD saved-rows i no-row
 
 -- their numbers lie in the values, and so do the first four bytes of a string
 number-inside : (i : ℕ) → i < nv-count → at-nv i .place + number-len (at-nv i .kind) ≤ 1024
 unfolding rows nv-rows every number-len
-number-inside i h = leb→le _ _ (every-at (λ (r : Row). leb (r .place + number-len (r .kind)) 1024) nv no-row tt i (omega (arith, nv-length)))
+number-inside i h = leb→le _ _ (every-at (λ (r : Row). leb (r .place + number-len (r .kind)) 1024) saved-rows no-row tt i (omega (arith, nv-length)))
 
 -- ---- a column at row i
 
@@ -67,16 +67,16 @@ map-at f [] i h = absurd (not-suc-le-zero h)
 map-at f (r ∷ rs) zero h = refl
 map-at f (r ∷ rs) (suc i) h = map-at f rs i (le-of-suc-le-suc h)
 
-module _ (f : Row → ℕ) (l : List ℕ) (are : l ≡ map f nv) where
+module _ (f : Row → ℕ) (l : List ℕ) (are : l ≡ map f saved-rows) where
   column-long : length l ≡ nv-count
-  column-long = ap length are ∙ length-map nv f ∙ nv-length
+  column-long = ap length are ∙ length-map saved-rows f ∙ nv-length
 
   column-at : (i : ℕ) → i < nv-count → getD l i 0 ≡ f (at-nv i)
-  column-at i h = ap (λ (x : List ℕ). getD x i 0) are ∙ map-at f nv i (omega (arith, nv-length))
+  column-at i h = ap (λ (x : List ℕ). getD x i 0) are ∙ map-at f saved-rows i (omega (arith, nv-length))
 
 pub fields-long : {kinds ats : List ℕ} → Fields kinds ats → (length kinds ≡ nv-count) × (length ats ≡ nv-count + 1)
 fields-long {kinds} {ats} lent =
-    (column-long (λ (r : Row). r .kind) kinds (lent .kinds-are), ap length (lent .ats-are) ∙ length-starts 8 nv ∙ ap suc nv-length)
+    (column-long (λ (r : Row). r .kind) kinds (lent .kinds-are), ap length (lent .ats-are) ∙ length-starts 8 saved-rows ∙ ap suc nv-length)
 
 pub places-long : (places : List ℕ) → Places places → length places ≡ nv-count
 places-long places are = column-long (λ (r : Row). r .place) places are
@@ -107,7 +107,7 @@ end-at {kinds} {ats} lent i h e = e ∙ getD-take (length ats - 1) (drop 1 ats) 
 pub record Here (i kind at width : ℕ) : Type 0 where
   pub there : i < nv-count
   pub kind-is : kind ≡ at-nv i .kind
-  pub at-is : at ≡ 8 + widths (take i nv)
+  pub at-is : at ≡ 8 + widths (take i saved-rows)
   pub width-is : width ≡ row-width (at-nv i)
 
 module _ {kinds ats : List ℕ} (lent : Fields kinds ats) (i : ℕ) (h : i < nv-count) {at : ℕ} (e : at ≡ getD ats i 0) where
@@ -116,7 +116,7 @@ module _ {kinds ats : List ℕ} (lent : Fields kinds ats) (i : ℕ) (h : i < nv-
       record {
         there = h;
         kind-is = column-at (λ (r : Row). r .kind) kinds (lent .kinds-are) i h;
-        at-is = e ∙ ap (λ (x : List ℕ). getD x i 0) (lent .ats-are) ∙ start-here nv i (omega (arith, nv-length)) 8;
+        at-is = e ∙ ap (λ (x : List ℕ). getD x i 0) (lent .ats-are) ∙ start-here saved-rows i (omega (arith, nv-length)) 8;
         width-is = refl;
       }
 
@@ -125,7 +125,7 @@ module _ {kinds ats : List ℕ} (lent : Fields kinds ats) (i : ℕ) (h : i < nv-
     ends : next ≡ at + row-width (at-nv i)
     ends =
         f ∙ ap (λ (x : List ℕ). getD x (i + 1) 0) (lent .ats-are)
-        ∙ omega (arith, start-next nv i (omega (arith, nv-length)) 8, widths-next nv i (omega (arith, nv-length)), seen .at-is)
+        ∙ omega (arith, start-next saved-rows i (omega (arith, nv-length)) 8, widths-next saved-rows i (omega (arith, nv-length)), seen .at-is)
 
     pub here : Here i (getD kinds i 0) at (next - at)
     here = record { there = h; kind-is = seen .kind-is; at-is = seen .at-is; width-is = omega (arith, ends) }
@@ -134,11 +134,11 @@ module _ {kinds ats : List ℕ} (lent : Fields kinds ats) (i : ℕ) (h : i < nv-
     rising = omega (arith, ends)
 
 module _ {i kind at width' : ℕ} (g : Here i kind at width') where
-  inside : i < length nv
+  inside : i < length saved-rows
   inside = let h = g .there in omega (arith, nv-length)
 
   row-kept : Kept (at-nv i)
-  row-kept = keeps-at nv i nv-keep inside
+  row-kept = keeps-at saved-rows i nv-keep inside
 
   len-here : at-nv i .len ≡ entry-len kind width'
   len-here = row-kept .len-is ∙ ap (λ (k : ℕ). entry-len k (row-width (at-nv i))) (sym (g .kind-is)) ∙ ap (entry-len kind) (sym (g .width-is))
@@ -153,7 +153,7 @@ module _ {i kind at width' : ℕ} (g : Here i kind at width') where
   number-room p = rw (p, g .kind-is) (number-inside i (g .there))
 
   pub room : at + width' ≤ nv-end
-  room = let a = g .at-is in let w = g .width-is in omega (arith, widths-all nv i inside, nv-ends)
+  room = let a = g .at-is in let w = g .width-is in omega (arith, widths-all saved-rows i inside, nv-ends)
 
   pub cut-here : {c : ℕ} → c ≡ cut (at-nv i) → (1 ≤ c) × (c ≤ 32)
   cut-here q = rw q (cut-fits (at-nv i) row-kept)
@@ -161,15 +161,15 @@ module _ {i kind at width' : ℕ} (g : Here i kind at width') where
   -- ---- the walks
 
   -- the numbers
-  saved-is : (bs : List ℕ) {c : ℕ} → c ≡ cut (at-nv i) → field bs at c ≡ getD (saved-numbers bs 8 nv) i 0
-  saved-is bs q = rw (g .at-is, q) (sym (number-here nv i inside bs 8))
+  saved-is : (bs : List ℕ) {c : ℕ} → c ≡ cut (at-nv i) → field bs at c ≡ getD (saved-numbers bs 8 saved-rows) i 0
+  saved-is bs q = rw (g .at-is, q) (sym (number-here saved-rows i inside bs 8))
 
-  numbers-long : (bs : List ℕ) → i < length (saved-numbers bs 8 nv)
-  numbers-long bs = let h = inside in omega (arith, length-numbers bs 8 nv)
+  numbers-long : (bs : List ℕ) → i < length (saved-numbers bs 8 saved-rows)
+  numbers-long bs = let h = inside in omega (arith, length-numbers bs 8 saved-rows)
 
   pub numbers-turn : (bs numbers : List ℕ) {c v : ℕ} → c ≡ cut (at-nv i) → i < length numbers → v ≡ field bs at c → Front bs numbers i → Front bs (set numbers i v) (i + 1)
   numbers-turn bs numbers {c} {v} q h e f =
-      let s : List ℕ = saved-numbers bs 8 nv in
+      let s : List ℕ = saved-numbers bs 8 saved-rows in
       rw (add-one i)
       (take-suc-set numbers i v h
       ∙ ap (λ (l : List ℕ). l ++ (v ∷ [])) f
@@ -179,7 +179,7 @@ module _ {i kind at width' : ℕ} (g : Here i kind at width') where
   pub number-known : (bs numbers : List ℕ) (n : ℕ) → i < n → Front bs numbers n → kind ≤ REAL → getD numbers i 0 ≡ field bs at width'
   number-known bs numbers n h f k =
       let q : width' ≡ cut (at-nv i) = g .width-is ∙ sym (cut-is (at-nv i) row-kept (let e = g .kind-is in omega arith)) in
-      sym (getD-take n numbers i 0 h) ∙ ap (λ (l : List ℕ). getD l i 0) f ∙ getD-take n (saved-numbers bs 8 nv) i 0 h ∙ sym (saved-is bs q)
+      sym (getD-take n numbers i 0 h) ∙ ap (λ (l : List ℕ). getD l i 0) f ∙ getD-take n (saved-numbers bs 8 saved-rows) i 0 h ∙ sym (saved-is bs q)
 
   -- the limits: an answer by rank is the row's
   module _ {lows highs : List ℕ} (lent : Limits lows highs) (v : ℕ) {answer b : Bool} (says : answer ≡ between (getD lows i 0) (getD highs i 0) (rank kind v)) (is : answer ≡ b) where
@@ -195,29 +195,29 @@ module _ {i kind at width' : ℕ} (g : Here i kind at width') where
     pub held-within : (values : List ℕ) {place : ℕ} → place ≡ at-nv i .place → Bytes values → v ≡ number values place (number-len kind) → within (at-nv i) (number values (at-nv i .place) (at-nv i .len)) ≡ b
     held-within values p hb e = sym (held-judged (at-nv i) row-kept values hb) ∙ by-rank _ (e ∙ rw (p, g .kind-is))
 
-    pub saved-within : (block : List ℕ) {c : ℕ} → c ≡ cut (at-nv i) → v ≡ field (bits block) at c → within (at-nv i) (field (bits block) (8 + widths (take i nv)) (row-width (at-nv i))) ≡ b
-    saved-within block q e = sym (saved-judged (at-nv i) row-kept block (8 + widths (take i nv))) ∙ by-rank _ (e ∙ rw (g .at-is, q))
+    pub saved-within : (block : List ℕ) {c : ℕ} → c ≡ cut (at-nv i) → v ≡ field (bits block) at c → within (at-nv i) (field (bits block) (8 + widths (take i saved-rows)) (row-width (at-nv i))) ≡ b
+    saved-within block q e = sym (saved-judged (at-nv i) row-kept block (8 + widths (take i saved-rows))) ∙ by-rank _ (e ∙ rw (g .at-is, q))
 
   -- how far the good ones go
-  pub saved-on : (bs : List ℕ) → within (at-nv i) (field bs (8 + widths (take i nv)) (row-width (at-nv i))) ≡ true → saved-front bs 8 nv ≡ i + saved-front bs (8 + widths (take i nv)) (drop i nv)
-      → saved-front bs 8 nv ≡ i + 1 + saved-front bs (8 + widths (take (i + 1) nv)) (drop (i + 1) nv)
+  pub saved-on : (bs : List ℕ) → within (at-nv i) (field bs (8 + widths (take i saved-rows)) (row-width (at-nv i))) ≡ true → saved-front bs 8 saved-rows ≡ i + saved-front bs (8 + widths (take i saved-rows)) (drop i saved-rows)
+      → saved-front bs 8 saved-rows ≡ i + 1 + saved-front bs (8 + widths (take (i + 1) saved-rows)) (drop (i + 1) saved-rows)
   saved-on bs e f =
-      let w : 8 + widths (take i nv) + row-width (at-nv i) ≡ 8 + widths (take (i + 1) nv) = omega (arith, widths-next nv i inside) in
-      omega (arith, f, saved-front-next nv i inside bs (8 + widths (take i nv)) e, ap (λ (k : ℕ). saved-front bs k (drop (i + 1) nv)) w)
+      let w : 8 + widths (take i saved-rows) + row-width (at-nv i) ≡ 8 + widths (take (i + 1) saved-rows) = omega (arith, widths-next saved-rows i inside) in
+      omega (arith, f, saved-front-next saved-rows i inside bs (8 + widths (take i saved-rows)) e, ap (λ (k : ℕ). saved-front bs k (drop (i + 1) saved-rows)) w)
 
-  pub saved-stop : (bs : List ℕ) → within (at-nv i) (field bs (8 + widths (take i nv)) (row-width (at-nv i))) ≡ false → saved-front bs 8 nv ≡ i + saved-front bs (8 + widths (take i nv)) (drop i nv) → i ≡ saved-front bs 8 nv
-  saved-stop bs e f = omega (arith, f, saved-front-next nv i inside bs (8 + widths (take i nv)) e)
+  pub saved-stop : (bs : List ℕ) → within (at-nv i) (field bs (8 + widths (take i saved-rows)) (row-width (at-nv i))) ≡ false → saved-front bs 8 saved-rows ≡ i + saved-front bs (8 + widths (take i saved-rows)) (drop i saved-rows) → i ≡ saved-front bs 8 saved-rows
+  saved-stop bs e f = omega (arith, f, saved-front-next saved-rows i inside bs (8 + widths (take i saved-rows)) e)
 
-  pub held-on : (values : List ℕ) → within (at-nv i) (number values (at-nv i .place) (at-nv i .len)) ≡ true → held-front values nv ≡ i + held-front values (drop i nv) → held-front values nv ≡ i + 1 + held-front values (drop (i + 1) nv)
-  held-on values e f = omega (arith, f, held-next nv i inside values e)
+  pub held-on : (values : List ℕ) → within (at-nv i) (number values (at-nv i .place) (at-nv i .len)) ≡ true → held-front values saved-rows ≡ i + held-front values (drop i saved-rows) → held-front values saved-rows ≡ i + 1 + held-front values (drop (i + 1) saved-rows)
+  held-on values e f = omega (arith, f, held-next saved-rows i inside values e)
 
-  pub held-stop : (values : List ℕ) → within (at-nv i) (number values (at-nv i .place) (at-nv i .len)) ≡ false → held-front values nv ≡ i + held-front values (drop i nv) → i ≡ held-front values nv
-  held-stop values e f = omega (arith, f, held-next nv i inside values e)
+  pub held-stop : (values : List ℕ) → within (at-nv i) (number values (at-nv i .place) (at-nv i .len)) ≡ false → held-front values saved-rows ≡ i + held-front values (drop i saved-rows) → i ≡ held-front values saved-rows
+  held-stop values e f = omega (arith, f, held-next saved-rows i inside values e)
 
   -- an entry is taken
-  pub take-turn : {place : ℕ} → place ≡ at-nv i .place → (bs first : List ℕ) {values after : List ℕ} → values ≡ load-rows bs 8 (take i nv) first
-      → after ≡ splice values place (entry-bytes kind (entry-len kind width') (drop at bs)) → after ≡ load-rows bs 8 (take (i + 1) nv) first
-  take-turn p bs first e f = f ∙ rw (e, p, ← len-here, g .kind-is, g .at-is) (sym (load-next nv i inside bs 8 first))
+  pub take-turn : {place : ℕ} → place ≡ at-nv i .place → (bs first : List ℕ) {values after : List ℕ} → values ≡ load-rows bs 8 (take i saved-rows) first
+      → after ≡ splice values place (entry-bytes kind (entry-len kind width') (drop at bs)) → after ≡ load-rows bs 8 (take (i + 1) saved-rows) first
+  take-turn p bs first e f = f ∙ rw (e, p, ← len-here, g .kind-is, g .at-is) (sym (load-next saved-rows i inside bs 8 first))
 
   -- an entry is saved: it fits its width, the block is zero from there on, and one more is in it
   module _ {place : ℕ} (p : place ≡ at-nv i .place) (values : List ℕ) (lv : length values ≡ 1024) where
@@ -227,51 +227,51 @@ module _ {i kind at width' : ℕ} (g : Here i kind at width') where
         let k : at-nv i .kind ≤ REAL = let q = g .kind-is in omega arith in
         rw (f, g .width-is, p, g .kind-is, ← row-kept .number-is k) (fits values (at-nv i) row-kept hb e)
 
-    before-long : length (saved values (take i nv)) ≡ widths (take i nv)
-    before-long = length-saved values (take i nv) (keeps-take nv i nv-keep) lv
+    before-long : length (saved values (take i saved-rows)) ≡ widths (take i saved-rows)
+    before-long = length-saved values (take i saved-rows) (keeps-take saved-rows i nv-keep) lv
 
-    pub zero-here : (l : List ℕ) {bs : List ℕ} → length l ≡ 8 * fresh-bytes → all-zero (drop 8 l) ≡ true → bs ≡ splice l 8 (saved values (take i nv)) → all-zero (drop at bs) ≡ true
+    pub zero-here : (l : List ℕ) {bs : List ℕ} → length l ≡ 8 * fresh-bytes → all-zero (drop 8 l) ≡ true → bs ≡ splice l 8 (saved values (take i saved-rows)) → all-zero (drop at bs) ≡ true
     zero-here l n z e =
-        let k : at ≡ 8 + length (saved values (take i nv)) = let q = g .at-is in omega (arith, before-long) in
-        rw (e, k) (zero-behind l (saved values (take i nv)) (omega arith) z)
+        let k : at ≡ 8 + length (saved values (take i saved-rows)) = let q = g .at-is in omega (arith, before-long) in
+        rw (e, k) (zero-behind l (saved values (take i saved-rows)) (omega arith) z)
 
-    pub save-turn : (l : List ℕ) {bs after : List ℕ} → length l ≡ 8 * fresh-bytes → bs ≡ splice l 8 (saved values (take i nv))
-        → after ≡ splice bs at (entry-bits kind (entry-len kind width') (take (entry-len kind width') (drop place values))) → after ≡ splice l 8 (saved values (take (i + 1) nv))
+    pub save-turn : (l : List ℕ) {bs after : List ℕ} → length l ≡ 8 * fresh-bytes → bs ≡ splice l 8 (saved values (take i saved-rows))
+        → after ≡ splice bs at (entry-bits kind (entry-len kind width') (take (entry-len kind width') (drop place values))) → after ≡ splice l 8 (saved values (take (i + 1) saved-rows))
     save-turn l n e f =
         let own : List ℕ = entry-bits (at-nv i .kind) (at-nv i .len) (part values (at-nv i)) in
         let m : length own ≡ row-width (at-nv i) = length-entry (at-nv i .kind) (at-nv i .len) (part values (at-nv i)) (part-long values (at-nv i) row-kept lv) in
-        let k : at ≡ 8 + length (saved values (take i nv)) = let q = g .at-is in omega (arith, before-long) in
+        let k : at ≡ 8 + length (saved values (take i saved-rows)) = let q = g .at-is in omega (arith, before-long) in
         f
         ∙ rw (e, p, ← len-here, g .kind-is, k)
-        (splice-then l 8 (saved values (take i nv)) own (let q = g .at-is in let w = g .width-is in omega (arith, room, before-long))
-        ∙ ap (splice l 8) (sym (saved-next nv i inside values)))
+        (splice-then l 8 (saved values (take i saved-rows)) own (let q = g .at-is in let w = g .width-is in omega (arith, room, before-long))
+        ∙ ap (splice l 8) (sym (saved-next saved-rows i inside values)))
 
 -- ---- the ends of the walks
 
 module _ (i : ℕ) (most : i ≤ nv-count) (all : (i < nv-count) → ⊥) where
-  none-left : drop i nv ≡ []
-  none-left = drop-of-length-le nv {i = i} (omega (arith, nv-length, all-passed))
+  none-left : drop i saved-rows ≡ []
+  none-left = drop-of-length-le saved-rows {i = i} (omega (arith, nv-length, all-passed))
     where
       all-passed : nv-count ≤ i
       all-passed = ⊎-elim (λ l. absurd (all l)) (λ x. x) (lt-or-ge i nv-count)
 
-  pub saved-end : (bs : List ℕ) → saved-front bs 8 nv ≡ i + saved-front bs (8 + widths (take i nv)) (drop i nv) → i ≡ saved-front bs 8 nv
+  pub saved-end : (bs : List ℕ) → saved-front bs 8 saved-rows ≡ i + saved-front bs (8 + widths (take i saved-rows)) (drop i saved-rows) → i ≡ saved-front bs 8 saved-rows
   unfolding saved-front
   saved-end bs f = sym (f ∙ (rw (none-left) (add-zero i)))
 
-  pub held-end : (values : List ℕ) → held-front values nv ≡ i + held-front values (drop i nv) → i ≡ held-front values nv
+  pub held-end : (values : List ℕ) → held-front values saved-rows ≡ i + held-front values (drop i saved-rows) → i ≡ held-front values saved-rows
   unfolding held-front
   held-end values f = sym (f ∙ (rw (none-left) (add-zero i)))
 
 -- ---- their beginnings
 
-pub saved-begin : (bs : List ℕ) → saved-front bs 8 nv ≡ 0 + saved-front bs (8 + widths (take 0 nv)) (drop 0 nv)
+pub saved-begin : (bs : List ℕ) → saved-front bs 8 saved-rows ≡ 0 + saved-front bs (8 + widths (take 0 saved-rows)) (drop 0 saved-rows)
 unfolding widths
 saved-begin bs = omega arith
 
-pub held-begin : (values : List ℕ) → held-front values nv ≡ 0 + held-front values (drop 0 nv)
+pub held-begin : (values : List ℕ) → held-front values saved-rows ≡ 0 + held-front values (drop 0 saved-rows)
 held-begin values = omega arith
 
-pub save-begin : (l values : List ℕ) → l ≡ splice l 8 (saved values (take 0 nv))
+pub save-begin : (l values : List ℕ) → l ≡ splice l 8 (saved values (take 0 saved-rows))
 unfolding saved
 save-begin l values = sym (splice-none l 8)

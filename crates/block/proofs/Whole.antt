@@ -16,7 +16,7 @@ use Rattle.block.proofs.Walking.{length-saved, held-all-good, saved-all
 use Rattle.block.proofs.Zeros.{zero-field}
 use Rattle.block.specs.Asked.{fresh-bytes, held-front, saved-front}
 use Rattle.block.specs.Block.{LAYOUT, BAG552, widths, saved, load-rows, values-good, rows-good, all-zero, block-of, headed, good}
-use Rattle.block.specs.Saved.{nv, storable, stored, loadable, loaded}
+use Rattle.block.specs.Saved.{saved-rows, storable, stored-block, loadable, loaded}
 use Rattle.table.specs.Row.{Row}
 use Rattle.table.specs.Rows.{nv-count, nv-end}
 use Rattle.wire.proofs.SpliceLaws.{splice-behind}
@@ -44,21 +44,21 @@ unfolding loadable good loaded
 head-bad block values e f = let h : headed BAG552 (bits block) ≡ false = sym e ∙ f in (rw h, rw h)
 
 module _ (block : List ℕ) (h : headed BAG552 (bits block) ≡ true) {rest : Bool} (is-rest : rest ≡ all-zero (drop nv-end (bits block))) where
-  by-parts : loadable block ≡ (rows-good (bits block) 8 nv && rest)
+  by-parts : loadable block ≡ (rows-good (bits block) 8 saved-rows && rest)
   unfolding loadable good
   by-parts =
       rw h
-      (ap (λ (k : ℕ). rows-good (bits block) 8 nv && all-zero (drop k (bits block))) nv-ends ∙ ap (λ (b : Bool). rows-good (bits block) 8 nv && b) (sym is-rest))
+      (ap (λ (k : ℕ). rows-good (bits block) 8 saved-rows && all-zero (drop k (bits block))) nv-ends ∙ ap (λ (b : Bool). rows-good (bits block) 8 saved-rows && b) (sym is-rest))
 
   pub rest-bad : rest ≡ false → 0 ≡ cond (loadable block) nv-count 0
-  rest-bad z = taken-none (loadable block) (sym (by-parts ∙ rw z (and-false (rows-good (bits block) 8 nv))))
+  rest-bad z = taken-none (loadable block) (sym (by-parts ∙ rw z (and-false (rows-good (bits block) 8 saved-rows))))
 
-  module _ (z : rest ≡ true) {front : ℕ} (is-front : front ≡ saved-front (bits block) 8 nv) where
+  module _ (z : rest ≡ true) {front : ℕ} (is-front : front ≡ saved-front (bits block) 8 saved-rows) where
     by-front : loadable block ≡ eqb front nv-count
     by-front =
-        by-parts ∙ ap (λ (b : Bool). rows-good (bits block) 8 nv && b) z ∙ and-true _
-        ∙ saved-all-good (bits block) 8 nv
-        ∙ ap (λ (k : ℕ). eqb k (length nv)) (sym is-front)
+        by-parts ∙ ap (λ (b : Bool). rows-good (bits block) 8 saved-rows && b) z ∙ and-true _
+        ∙ saved-all-good (bits block) 8 saved-rows
+        ∙ ap (λ (k : ℕ). eqb k (length saved-rows)) (sym is-front)
         ∙ ap (eqb front) nv-length
 
     pub entry-bad : front < nv-count → 0 ≡ cond (loadable block) nv-count 0
@@ -66,7 +66,7 @@ module _ (block : List ℕ) (h : headed BAG552 (bits block) ≡ true) {rest : Bo
 
     pub all-taken : nv-count ≤ front → front ≡ cond (loadable block) nv-count 0
     all-taken h =
-        let q : front ≡ nv-count = omega (arith, front-most (bits block) 8 nv, nv-length) in
+        let q : front ≡ nv-count = omega (arith, front-most (bits block) 8 saved-rows, nv-length) in
         q ∙ taken-all (loadable block) (sym (by-front ∙ eq-eqb front nv-count q))
 
 -- ---- the block that is stored
@@ -93,45 +93,45 @@ drop-replicate (suc n) (suc m) =
 
 -- written one after the other into a fresh block of zeros
 fresh-bits : (values : List ℕ) → length values ≡ 1024
-    → splice (splice (splice (bits (replicate fresh-bytes 0)) 0 (msb 4 LAYOUT)) 4 (msb 4 BAG552)) 8 (saved values nv) ≡ (msb 4 LAYOUT ++ (msb 4 BAG552 ++ saved values nv)) ++ replicate (8 * fresh-bytes - (8 + widths nv)) 0
+    → splice (splice (splice (bits (replicate fresh-bytes 0)) 0 (msb 4 LAYOUT)) 4 (msb 4 BAG552)) 8 (saved values saved-rows) ≡ (msb 4 LAYOUT ++ (msb 4 BAG552 ++ saved values saved-rows)) ++ replicate (8 * fresh-bytes - (8 + widths saved-rows)) 0
 unfolding splice
 fresh-bits values e =
     let z : List ℕ = replicate (8 * fresh-bytes) 0 in
     let a : List ℕ = msb 4 LAYOUT in
     let b : List ℕ = msb 4 BAG552 in
-    let s : List ℕ = saved values nv in
+    let s : List ℕ = saved values saved-rows in
     let la : 0 + length a ≡ 4 = omega (arith, length-msb 4 LAYOUT) in
     let lb : length b ≡ 4 = length-msb 4 BAG552 in
-    let ls : length s ≡ widths nv = length-saved values nv nv-keep e in
+    let ls : length s ≡ widths saved-rows = length-saved values saved-rows nv-keep e in
     let lz : length z ≡ 8 * fresh-bytes = length-replicate {A = ℕ} (8 * fresh-bytes) 0 in
-    let n : 0 + length (a ++ (b ++ s)) ≡ 8 + widths nv = omega (arith, length-append a (b ++ s), length-append b s) in
+    let n : 0 + length (a ++ (b ++ s)) ≡ 8 + widths saved-rows = omega (arith, length-append a (b ++ s), length-append b s) in
     ap (λ (l : List ℕ). splice (splice (splice l 0 a) 4 b) 8 s) (bits-zero fresh-bytes)
     ∙ ap (λ (l : List ℕ). splice l 8 s) (splice-behind z 0 a b 4 la (omega arith))
     ∙ splice-behind z 0 (a ++ b) s 8 (omega (arith, length-append a b)) (omega (arith, nv-ends))
     ∙ ap (splice z 0) (append-assoc a b s)
     ∙ ap (λ (k : ℕ). (a ++ (b ++ s)) ++ drop k z) n
-    ∙ ap (λ (l : List ℕ). (a ++ (b ++ s)) ++ l) (drop-replicate (8 + widths nv) (8 * fresh-bytes))
+    ∙ ap (λ (l : List ℕ). (a ++ (b ++ s)) ++ l) (drop-replicate (8 + widths saved-rows) (8 * fresh-bytes))
 
 -- the zeros behind a fresh block
-zeros-on : replicate {A = ℕ} (8 * fresh-bytes - (8 + widths nv)) 0 ++ bits (replicate (512 - fresh-bytes) 0) ≡ replicate (4096 - (8 + widths nv)) 0
+zeros-on : replicate {A = ℕ} (8 * fresh-bytes - (8 + widths saved-rows)) 0 ++ bits (replicate (512 - fresh-bytes) 0) ≡ replicate (4096 - (8 + widths saved-rows)) 0
 zeros-on =
-    let n : 8 * fresh-bytes - (8 + widths nv) + 8 * (512 - fresh-bytes) ≡ 4096 - (8 + widths nv) = omega (arith, nv-ends) in
-    ap (λ (l : List ℕ). replicate {A = ℕ} (8 * fresh-bytes - (8 + widths nv)) 0 ++ l) (bits-zero (512 - fresh-bytes))
-    ∙ replicate-append-replicate {A = ℕ} (8 * fresh-bytes - (8 + widths nv)) (8 * (512 - fresh-bytes)) 0
+    let n : 8 * fresh-bytes - (8 + widths saved-rows) + 8 * (512 - fresh-bytes) ≡ 4096 - (8 + widths saved-rows) = omega (arith, nv-ends) in
+    ap (λ (l : List ℕ). replicate {A = ℕ} (8 * fresh-bytes - (8 + widths saved-rows)) 0 ++ l) (bits-zero (512 - fresh-bytes))
+    ∙ replicate-append-replicate {A = ℕ} (8 * fresh-bytes - (8 + widths saved-rows)) (8 * (512 - fresh-bytes)) 0
     ∙ ap (λ (k : ℕ). replicate {A = ℕ} k 0) n
 
-stored-bits : (values fresh : List ℕ) → length values ≡ 1024 → bits fresh ≡ splice (splice (splice (bits (replicate fresh-bytes 0)) 0 (msb 4 LAYOUT)) 4 (msb 4 BAG552)) 8 (saved values nv)
-    → bits (fresh ++ replicate (512 - fresh-bytes) 0) ≡ block-of BAG552 values nv
+stored-bits : (values fresh : List ℕ) → length values ≡ 1024 → bits fresh ≡ splice (splice (splice (bits (replicate fresh-bytes 0)) 0 (msb 4 LAYOUT)) 4 (msb 4 BAG552)) 8 (saved values saved-rows)
+    → bits (fresh ++ replicate (512 - fresh-bytes) 0) ≡ block-of BAG552 values saved-rows
 unfolding block-of
 stored-bits values fresh e w =
     let a : List ℕ = msb 4 LAYOUT in
     let b : List ℕ = msb 4 BAG552 in
-    let s : List ℕ = saved values nv in
+    let s : List ℕ = saved values saved-rows in
     let y : List ℕ = bits (replicate (512 - fresh-bytes) 0) in
-    let z : List ℕ = replicate (4096 - (8 + widths nv)) 0 in
+    let z : List ℕ = replicate (4096 - (8 + widths saved-rows)) 0 in
     bits-append fresh (replicate (512 - fresh-bytes) 0)
     ∙ ap (λ (l : List ℕ). l ++ y) (w ∙ fresh-bits values e)
-    ∙ append-assoc (a ++ (b ++ s)) (replicate (8 * fresh-bytes - (8 + widths nv)) 0) y
+    ∙ append-assoc (a ++ (b ++ s)) (replicate (8 * fresh-bytes - (8 + widths saved-rows)) 0) y
     ∙ ap (λ (l : List ℕ). (a ++ (b ++ s)) ++ l) zeros-on
     ∙ append-assoc a (b ++ s) z
     ∙ ap (λ (l : List ℕ). a ++ l) (append-assoc b s z)
@@ -152,24 +152,24 @@ fresh-over fresh n l c d =
 bytes-with : (block : List ℕ) {bs : List ℕ} → Bytes block → length block ≡ 512 → bits block ≡ bs → block ≡ packed 512 bs
 bytes-with block h n e = sym (bytes-of block h) ∙ ap (λ (k : ℕ). packed k (bits block)) n ∙ ap (packed 512) e
 
-module _ (values block : List ℕ) {n : ℕ} (is-front : n ≡ held-front values nv) where
-  by-front-held : values-good values nv ≡ eqb n nv-count
-  by-front-held = held-all-good values nv ∙ ap (λ (k : ℕ). eqb k (length nv)) (sym is-front) ∙ ap (eqb n) nv-length
+module _ (values block : List ℕ) {n : ℕ} (is-front : n ≡ held-front values saved-rows) where
+  by-front-held : values-good values saved-rows ≡ eqb n nv-count
+  by-front-held = held-all-good values saved-rows ∙ ap (λ (k : ℕ). eqb k (length saved-rows)) (sym is-front) ∙ ap (eqb n) nv-length
 
-  pub store-refused : n < nv-count → (false ≡ storable values) × (block ≡ stored values block)
-  unfolding storable stored
+  pub store-refused : n < nv-count → (false ≡ storable values) × (block ≡ stored-block values block)
+  unfolding storable stored-block
   store-refused h =
-      let e : values-good values nv ≡ false = by-front-held ∙ ne-eqb n nv-count (λ q. omega arith) in
+      let e : values-good values saved-rows ≡ false = by-front-held ∙ ne-eqb n nv-count (λ q. omega arith) in
       (sym e, sym (rw e))
 
-  pub store-done : nv-count ≤ n → length values ≡ 1024 → (fresh : List ℕ) {done : List ℕ} → bits fresh ≡ splice (splice (splice (bits (replicate fresh-bytes 0)) 0 (msb 4 LAYOUT)) 4 (msb 4 BAG552)) 8 (saved values (take n nv))
-      → done ≡ fresh ++ replicate (512 - fresh-bytes) 0 → Bytes done → length done ≡ 512 → (true ≡ storable values) × (done ≡ stored values block)
-  unfolding storable stored
+  pub store-done : nv-count ≤ n → length values ≡ 1024 → (fresh : List ℕ) {done : List ℕ} → bits fresh ≡ splice (splice (splice (bits (replicate fresh-bytes 0)) 0 (msb 4 LAYOUT)) 4 (msb 4 BAG552)) 8 (saved values (take n saved-rows))
+      → done ≡ fresh ++ replicate (512 - fresh-bytes) 0 → Bytes done → length done ≡ 512 → (true ≡ storable values) × (done ≡ stored-block values block)
+  unfolding storable stored-block
   store-done h lv fresh {done} w d hb l =
-      let q : n ≡ nv-count = omega (arith, held-most values nv, nv-length) in
-      let e : values-good values nv ≡ true = by-front-held ∙ eq-eqb n nv-count q in
-      let z : take n nv ≡ nv = take-all n nv (omega (arith, nv-length)) in
-      let f : bits done ≡ block-of BAG552 values nv = ap bits d ∙ stored-bits values fresh lv (w ∙ rw z) in
+      let q : n ≡ nv-count = omega (arith, held-most values saved-rows, nv-length) in
+      let e : values-good values saved-rows ≡ true = by-front-held ∙ eq-eqb n nv-count q in
+      let z : take n saved-rows ≡ saved-rows = take-all n saved-rows (omega (arith, nv-length)) in
+      let f : bits done ≡ block-of BAG552 values saved-rows = ap bits d ∙ stored-bits values fresh lv (w ∙ rw z) in
       (sym e, bytes-with done hb l f ∙ sym (rw e))
 
 -- ---- the values that are loaded
@@ -182,15 +182,15 @@ some-of false = refl
 some-taken : (block : List ℕ) {n : ℕ} → n ≡ cond (loadable block) nv-count 0 → ltb 0 n ≡ loadable block
 some-taken block e = ap (ltb 0) e ∙ some-of (loadable block)
 
-rows-taken : (b : Bool) (bs values : List ℕ) → load-rows bs 8 (take (cond b nv-count 0) nv) values ≡ cond b (load-rows bs 8 nv values) values
+rows-taken : (b : Bool) (bs values : List ℕ) → load-rows bs 8 (take (cond b nv-count 0) saved-rows) values ≡ cond b (load-rows bs 8 saved-rows values) values
 unfolding load-rows
-rows-taken true bs values = ap (λ (l : List Row). load-rows bs 8 l values) (take-all nv-count nv (omega (arith, nv-length)))
+rows-taken true bs values = ap (λ (l : List Row). load-rows bs 8 l values) (take-all nv-count saved-rows (omega (arith, nv-length)))
 rows-taken false bs values = refl
 
-pub load-done : (block values : List ℕ) {n : ℕ} → n ≡ cond (loadable block) nv-count 0 → {after : List ℕ} → after ≡ load-rows (bits block) 8 (take n nv) values → (ltb 0 n ≡ loadable block) × (after ≡ loaded block values)
+pub load-done : (block values : List ℕ) {n : ℕ} → n ≡ cond (loadable block) nv-count 0 → {after : List ℕ} → after ≡ load-rows (bits block) 8 (take n saved-rows) values → (ltb 0 n ≡ loadable block) × (after ≡ loaded block values)
 unfolding loaded
 load-done block values e p =
-    (some-taken block e, p ∙ ap (λ (k : ℕ). load-rows (bits block) 8 (take k nv) values) e ∙ rows-taken (loadable block) (bits block) values)
+    (some-taken block e, p ∙ ap (λ (k : ℕ). load-rows (bits block) 8 (take k saved-rows) values) e ∙ rows-taken (loadable block) (bits block) values)
 
 pub taken-most : (block : List ℕ) {n : ℕ} → n ≡ cond (loadable block) nv-count 0 → n ≤ nv-count
 taken-most block e = rw e (most (loadable block))

@@ -7,8 +7,8 @@ use lib.Dec.{leb}
 use lib.ListN.{take}
 use Rattle.bits.specs.Bits.{field}
 use Rattle.block.specs.Block.{row-width, within}
-use Rattle.block.specs.Saved.{nv}
-use Rattle.entry.specs.Entry.{number-len}
+use Rattle.block.specs.Saved.{saved-rows}
+use Rattle.limits.specs.Limits.{number-len}
 use Rattle.table.specs.Row.{Row, REAL}
 use Rattle.table.specs.Rows.{nv-end}
 use Rattle.table.specs.Rule.{rank}
@@ -22,18 +22,18 @@ starts at [] = at ∷ []
 starts at (r ∷ rs) = at ∷ starts (at + row-width r) rs
 
 pub record Fields (kinds ats : List ℕ) : Type 0 where
-  pub kinds-are : kinds ≡ map (λ (r : Row). r .kind) nv
-  pub ats-are : ats ≡ starts 8 nv
+  pub kinds-are : kinds ≡ map (λ (r : Row). r .kind) saved-rows
+  pub ats-are : ats ≡ starts 8 saved-rows
 
 -- the bits that are looked at as a number: of a string the first 32, which no limit refuses
 unfoldable pub cut : Row → ℕ
 cut r = cond (leb (r .kind) REAL) (row-width r) 32
 
 abbrev pub Cuts : List ℕ → Type 0
-Cuts cuts = cuts ≡ map cut nv
+Cuts cuts = cuts ≡ map cut saved-rows
 
 abbrev pub Places : List ℕ → Type 0
-Places places = places ≡ map (λ (r : Row). r .place) nv
+Places places = places ≡ map (λ (r : Row). r .place) saved-rows
 
 -- limits, as places in the order of the type
 unfoldable pub lowest : Row → ℕ
@@ -43,8 +43,8 @@ unfoldable pub highest : Row → ℕ
 highest r = cond (leb (r .kind) REAL) (rank (r .kind) (r .high)) 4294967295
 
 pub record Limits (lows highs : List ℕ) : Type 0 where
-  pub lows-are : lows ≡ map lowest nv
-  pub highs-are : highs ≡ map highest nv
+  pub lows-are : lows ≡ map lowest saved-rows
+  pub highs-are : highs ≡ map highest saved-rows
 
 -- ---- an entry
 
@@ -85,4 +85,4 @@ saved-numbers bs at (r ∷ rs) = field bs at (cut r) ∷ saved-numbers bs (at + 
 
 -- the first n of them are known
 abbrev pub Front : List ℕ → List ℕ → ℕ → Type 0
-Front bs numbers n = take n numbers ≡ take n (saved-numbers bs 8 nv)
+Front bs numbers n = take n numbers ≡ take n (saved-numbers bs 8 saved-rows)

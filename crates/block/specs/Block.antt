@@ -5,8 +5,7 @@ use Prim.Native.Nat.{ℕ, _+_, _-_, _*_}
 use lib.Dec.{leb, eqb}
 use lib.ListN.{take, drop, replicate}
 use Rattle.bits.specs.Bits.{msb, bits, num, field, packed}
-use Rattle.entry.specs.Entry.{number-verdict}
-use Rattle.entry.specs.Limits.{verdict-code}
+use Rattle.limits.specs.Limits.{number-verdict, verdict-code}
 use Rattle.table.specs.Row.{Row, BOOL, REAL}
 use Rattle.wire.specs.Little.{little, fromLittle, number}
 use Rattle.wire.specs.Splice.{splice}

@@ -7,21 +7,21 @@ use Rattle.block.specs.Block.{BAG552, nv-rows, values-good, load-rows, b
 use Rattle.table.specs.Row.{Row}
 use Rattle.table.specs.Rows.{rows}
 
-abbrev pub nv : List Row
-nv = nv-rows rows
+abbrev pub saved-rows : List Row
+saved-rows = nv-rows rows
 
 -- may the values be stored?
 unfoldable pub storable : List ℕ → Bool
-storable values = values-good values nv
+storable values = values-good values saved-rows
 
 -- the block after a store
-unfoldable pub stored : List ℕ → List ℕ → List ℕ
-stored values block = cond (storable values) (packed 512 (block-of BAG552 values nv)) block
+unfoldable pub stored-block : List ℕ → List ℕ → List ℕ
+stored-block values block = cond (storable values) (packed 512 (block-of BAG552 values saved-rows)) block
 
 -- is a block not faulty?
 unfoldable pub loadable : List ℕ → Bool
-loadable block = good BAG552 (bits block) nv
+loadable block = good BAG552 (bits block) saved-rows
 
 -- the values after a load
 unfoldable pub loaded : List ℕ → List ℕ → List ℕ
-loaded block values = cond (loadable block) (load-rows (bits block) 8 nv values) values
+loaded block values = cond (loadable block) (load-rows (bits block) 8 saved-rows values) values

@@ -13,7 +13,8 @@ use Rattle.table.specs.Rule.{pick, held}
 use Rattle.table.specs.Walk.{both, every}
 use Rattle.table.proofs.Walks.{every-at, both-left, both-right}
 use Rattle.table.proofs.Table.{rows-length}
-use Rattle.entry.specs.Entry.{entry-of, number-verdict}
+use Rattle.entry.specs.Entry.{entry-of}
+use Rattle.limits.specs.Limits.{number-verdict}
 use Rattle.card.specs.Card.{level-verdict, with-card}
 use Rattle.card.proofs.Stored.{card-writes, clear, with-card-beside}
 

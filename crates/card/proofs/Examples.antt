@@ -10,8 +10,8 @@ use Rattle.wire.specs.Flags.{is-set}
 use Rattle.bits.specs.Bits.{msb, bits, num-from, num, field, packed}
 use Rattle.bits.specs.Fields.{encode, decode}
 use Rattle.table.specs.Places.{settings-1, low-enable, low-level, low-hysteresis}
-use Rattle.entry.specs.Limits.{verdict-code, first-fault, whole-verdict, real-verdict, by-kind, kind-verdict}
-use Rattle.card.specs.Card.{widths, enable, point-fields, point-bits, card-bits, card-of, fields-of, layout-verdict, level-verdict, first-bad, point-verdict, card-verdict, with-point, with-card}
+use Rattle.limits.specs.Limits.{verdict-code, first-fault, whole-verdict, real-verdict, by-kind, kind-verdict}
+use Rattle.card.specs.Card.{point-widths, enable, point-fields, point-bits, card-bits, card-of, fields-of, layout-verdict, level-verdict, first-bad, point-verdict, card-verdict, with-point, with-card}
 
 -- trip point 1: low level 0.5, hysteresis 0.125, only that side enabled; the rest zero
 abbrev pub half-low : List ℕ
@@ -33,7 +33,7 @@ example-K-written = refl
 
 -- a card by its layout and the levels and hystereses of both points, with no side enabled
 abbrev pub card-with : ℕ → List ℕ → List ℕ → List ℕ
-card-with n one two = packed 33 (msb 4 n ++ (encode widths (0 ∷ 0 ∷ one) ++ encode widths (0 ∷ 0 ∷ two)))
+card-with n one two = packed 33 (msb 4 n ++ (encode point-widths (0 ∷ 0 ∷ one) ++ encode point-widths (0 ∷ 0 ∷ two)))
 
 abbrev none : List ℕ
 none = 0 ∷ 0 ∷ 0 ∷ 0 ∷ []

@@ -15,7 +15,7 @@ use Rattle.bits.specs.Fields.{decode, total, Packable}
 use Rattle.bits.proofs.Numbers.{num-lt, small-take, small-drop, small-bits}
 use Rattle.bits.proofs.Packing.{length-encode}
 use Rattle.table.specs.Places.{high-enable, low-enable, high-level, low-level, high-hysteresis, low-hysteresis}
-use Rattle.card.specs.Card.{widths, enable, point-fields, point-bits, fields-of, with-point}
+use Rattle.card.specs.Card.{point-widths, enable, point-fields, point-bits, fields-of, with-point}
 
 pub enable-lt : (l : List ℕ) (at : ℕ) → enable l at < 2
 unfolding enable
@@ -31,14 +31,14 @@ pub fields-are : (l : List ℕ) (at : ℕ) {a b c d e f : ℕ} → a ≡ enable 
 unfolding point-fields
 fields-are l at a b c d e f = rw (a, b, c, d, e, f)
 
-pub packable : (l : List ℕ) (at : ℕ) → Bytes l → Packable widths (point-fields l at)
+pub packable : (l : List ℕ) (at : ℕ) → Bytes l → Packable point-widths (point-fields l at)
 unfolding Packable point-fields
 packable l at h =
     omega (arith, enable-lt l (at + high-enable), enable-lt l (at + low-enable), number-lt l (at + high-level) 4 h, number-lt l (at + high-hysteresis) 4 h, number-lt l (at + low-level) 4 h, number-lt l (at + low-hysteresis) 4 h)
 
 pub length-point : (l : List ℕ) (at : ℕ) → Bytes l → length (point-bits l at) ≡ 130
 unfolding point-bits total
-length-point l at h = length-encode widths (point-fields l at) (packable l at h)
+length-point l at h = length-encode point-widths (point-fields l at) (packable l at h)
 
 decode-lt : (ws bs : List ℕ) (k : ℕ) → Small bs → getD (decode ws bs) k 0 < 2 ^ getD ws k 0
 unfolding decode
@@ -46,9 +46,9 @@ decode-lt [] bs k h = pow-pos 0
 decode-lt (w ∷ ws) bs zero h = lt-of-lt-of-le (num-lt (take w bs) (small-take w bs h)) (pow-mono (omega (arith, length-take w bs)))
 decode-lt (w ∷ ws) bs (suc k) h = decode-lt ws (drop w bs) k (small-drop w bs h)
 
-pub fields-lt : (card : List ℕ) (at k : ℕ) → getD (fields-of card at) k 0 < 2 ^ getD widths k 0
+pub fields-lt : (card : List ℕ) (at k : ℕ) → getD (fields-of card at) k 0 < 2 ^ getD point-widths k 0
 unfolding fields-of
-fields-lt card at k = decode-lt widths (drop at (bits card)) k (small-drop at (bits card) (small-bits card))
+fields-lt card at k = decode-lt point-widths (drop at (bits card)) k (small-drop at (bits card) (small-bits card))
 
 -- six numbers, one after the other
 pub point-written : (l a b c d e f fs : List ℕ) (to : ℕ)

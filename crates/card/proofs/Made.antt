@@ -14,7 +14,7 @@ use Rattle.bits.specs.Fields.{encode}
 use Rattle.bits.proofs.Numbers.{length-msb, msb-cat, length-bits, length-packed, bytes-of}
 use Rattle.bits.proofs.Copying.{bits-drop}
 use Rattle.table.specs.Places.{settings-1, settings-2}
-use Rattle.card.specs.Card.{layout, widths, point-fields, point-bits, card-bits, card-of}
+use Rattle.card.specs.Card.{layout, point-widths, point-fields, point-bits, card-bits, card-of}
 use Rattle.card.proofs.Fields.{enable-lt, length-point}
 
 -- ---- lengths
@@ -55,7 +55,7 @@ two-bits h l e = msb-cat 1 1 h l e
 -- six bits, four words and two bits, then four words, are layout, point 1 and point 2
 regrouped : (h l a b c d i m e f g k : ℕ) → h < 2 → l < 2 → i < 2 → m < 2
     → (msb 6 (4 + (h * 2 + l)) ++ (msb 32 a ++ (msb 32 b ++ (msb 32 c ++ (msb 32 d ++ msb 2 (i * 2 + m)))))) ++ (msb 32 e ++ (msb 32 f ++ (msb 32 g ++ msb 32 k)))
-    ≡ msb 4 layout ++ (encode widths (h ∷ l ∷ a ∷ b ∷ c ∷ d ∷ []) ++ encode widths (i ∷ m ∷ e ∷ f ∷ g ∷ k ∷ []))
+    ≡ msb 4 layout ++ (encode point-widths (h ∷ l ∷ a ∷ b ∷ c ∷ d ∷ []) ++ encode point-widths (i ∷ m ∷ e ∷ f ∷ g ∷ k ∷ []))
 unfolding encode
 regrouped h l a b c d i m e f g k hh hl hi hm =
     rw (msb-cat 4 2 1 (h * 2 + l) (omega arith), two-bits h l hl, two-bits i m hm) (simp (append-assoc, append-nil))

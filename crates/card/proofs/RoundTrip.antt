@@ -18,9 +18,9 @@ use Rattle.bits.specs.Fields.{encode, decode, total}
 use Rattle.bits.proofs.Numbers.{length-bits, msb-num, small-bits, small-take, small-drop, bytes-of}
 use Rattle.bits.proofs.Packing.{encode-decode}
 use Rattle.table.specs.Places.{settings-1, settings-2, high-enable, low-enable, high-level, low-level, high-hysteresis, low-hysteresis}
-use Rattle.entry.specs.declared.limits.Verdict.{Verdict}
-use Rattle.entry.specs.declared.limits.Verdict.the-variants.{Within, NotANumber, Above, Below}
-use Rattle.card.specs.Card.{layout, widths, point-1, point-2, enable, point-fields, point-bits, card-bits, card-of, fields-of, layout-verdict, first-bad, point-verdict, card-verdict, with-point, with-card}
+use Rattle.limits.specs.declared.Verdict.{Verdict}
+use Rattle.limits.specs.declared.Verdict.the-variants.{Within, NotANumber, Above, Below}
+use Rattle.card.specs.Card.{layout, point-widths, point-1, point-2, enable, point-fields, point-bits, card-bits, card-of, fields-of, layout-verdict, first-bad, point-verdict, card-verdict, with-point, with-card}
 use Rattle.card.proofs.Shown.{point-1-shown, point-2-shown}
 use Rattle.card.proofs.Stored.{flag-back, point-1-stored, point-2-stored}
 
@@ -47,7 +47,7 @@ card-layout card e = right-layout _ (first-within _ _ e .0)
 
 -- ---- a card of layout 1 is its fields
 
-card-parts : (card : List ℕ) → length card ≡ 33 → field (bits card) 0 4 ≡ layout → msb 4 layout ++ (encode widths (fields-of card point-1) ++ encode widths (fields-of card point-2)) ≡ bits card
+card-parts : (card : List ℕ) → length card ≡ 33 → field (bits card) 0 4 ≡ layout → msb 4 layout ++ (encode point-widths (fields-of card point-1) ++ encode point-widths (fields-of card point-2)) ≡ bits card
 unfolding field fields-of total
 card-parts card n e =
     let B : List ℕ = bits card in
@@ -55,9 +55,9 @@ card-parts card n e =
     let l : length B ≡ 264 = length-bits card ∙ rw n in
     let z : drop 264 B ≡ [] = drop-of-length-le B {i = 264} (omega arith) in
     let A : msb 4 layout ≡ take 4 B = ap (msb 4) (sym e) ∙ msb-num 4 (take 4 B) (small-take 4 B s) (length-take-le 4 B (omega arith)) in
-    let P : encode widths (decode widths (drop 4 B)) ++ drop 130 (drop 4 B) ≡ drop 4 B = encode-decode widths (drop 4 B) (small-drop 4 B s) (omega (arith, length-drop 4 B)) in
-    let Q : encode widths (decode widths (drop 134 B)) ++ drop 130 (drop 134 B) ≡ drop 134 B = encode-decode widths (drop 134 B) (small-drop 134 B s) (omega (arith, length-drop 134 B)) in
-    let q : encode widths (decode widths (drop 134 B)) ≡ drop 134 B = sym (append-nil _) ∙ (rw (drop-drop 130 134 B, z) at Q) in
+    let P : encode point-widths (decode point-widths (drop 4 B)) ++ drop 130 (drop 4 B) ≡ drop 4 B = encode-decode point-widths (drop 4 B) (small-drop 4 B s) (omega (arith, length-drop 4 B)) in
+    let Q : encode point-widths (decode point-widths (drop 134 B)) ++ drop 130 (drop 134 B) ≡ drop 134 B = encode-decode point-widths (drop 134 B) (small-drop 134 B s) (omega (arith, length-drop 134 B)) in
+    let q : encode point-widths (decode point-widths (drop 134 B)) ≡ drop 134 B = sym (append-nil _) ∙ (rw (drop-drop 130 134 B, z) at Q) in
     rw (A, q, ← drop-drop 130 4 B, P) (take-append-drop 4 B)
 
 -- the enable bytes of a point are 0 or 1

@@ -13,7 +13,7 @@ use Rattle.bits.proofs.Numbers.{length-msb, num-msb, small-append, small-msb, b
 use Rattle.bits.proofs.Parts.{field-mid}
 use Rattle.bits.proofs.Packing.{decode-encode}
 use Rattle.table.specs.Places.{settings-1, settings-2}
-use Rattle.card.specs.Card.{layout, widths, point-1, point-2, point-fields, point-bits, card-bits, card-of, fields-of, layout-verdict, first-bad, point-verdict, card-verdict}
+use Rattle.card.specs.Card.{layout, point-widths, point-1, point-2, point-fields, point-bits, card-bits, card-of, fields-of, layout-verdict, first-bad, point-verdict, card-verdict}
 use Rattle.card.proofs.Fields.{packable, length-point}
 use Rattle.card.proofs.Made.{length-card-bits}
 
@@ -35,7 +35,7 @@ module _ (values : List ℕ) (bytes : Bytes values) where
   unfolding card-bits point-bits
   small-card =
       small-append (msb 4 layout) (first-point ++ second-point) (small-msb 4 layout)
-      (small-append first-point second-point (small-encode widths (point-fields values settings-1)) (small-encode widths (point-fields values settings-2)))
+      (small-append first-point second-point (small-encode point-widths (point-fields values settings-1)) (small-encode point-widths (point-fields values settings-2)))
 
   -- the card's bytes say the card's bits
   pub bits-of-card : bits (card-of values) ≡ card-bits values
@@ -54,18 +54,18 @@ module _ (values : List ℕ) (bytes : Bytes values) where
   pub point-1-shown : fields-of (card-of values) point-1 ≡ point-fields values settings-1
   unfolding fields-of card-bits point-bits
   point-1-shown =
-      ap (λ (l : List ℕ). decode widths (drop 4 l)) bits-of-card
-      ∙ ap (decode widths) (drop-at (msb 4 layout) (first-point ++ second-point) 4 (length-msb 4 layout))
-      ∙ decode-encode widths (point-fields values settings-1) second-point (packable values settings-1 bytes)
+      ap (λ (l : List ℕ). decode point-widths (drop 4 l)) bits-of-card
+      ∙ ap (decode point-widths) (drop-at (msb 4 layout) (first-point ++ second-point) 4 (length-msb 4 layout))
+      ∙ decode-encode point-widths (point-fields values settings-1) second-point (packable values settings-1 bytes)
 
   pub point-2-shown : fields-of (card-of values) point-2 ≡ point-fields values settings-2
   unfolding fields-of card-bits point-bits
   point-2-shown =
       let m : List ℕ = msb 4 layout in
       let n : length (m ++ first-point) ≡ 134 = omega (arith, length-append m first-point, length-msb 4 layout, length-point values settings-1 bytes) in
-      ap (λ (l : List ℕ). decode widths (drop 134 l)) (bits-of-card ∙ sym (append-assoc m first-point second-point))
-      ∙ ap (decode widths) (drop-at (m ++ first-point) second-point 134 n ∙ sym (append-nil second-point))
-      ∙ decode-encode widths (point-fields values settings-2) [] (packable values settings-2 bytes)
+      ap (λ (l : List ℕ). decode point-widths (drop 134 l)) (bits-of-card ∙ sym (append-assoc m first-point second-point))
+      ∙ ap (decode point-widths) (drop-at (m ++ first-point) second-point 134 n ∙ sym (append-nil second-point))
+      ∙ decode-encode point-widths (point-fields values settings-2) [] (packable values settings-2 bytes)
 
   -- a card is within where the entries are
   pub card-judged : card-verdict (card-of values) ≡ first-bad (point-verdict (point-fields values settings-1)) (point-verdict (point-fields values settings-2))

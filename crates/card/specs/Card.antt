@@ -10,17 +10,17 @@ use Rattle.bits.specs.Bits.{msb, bits, field, packed}
 use Rattle.bits.specs.Fields.{encode, decode}
 use Rattle.table.specs.Row.{REAL}
 use Rattle.table.specs.Places.{settings-1, settings-2, high-enable, low-enable, high-level, low-level, high-hysteresis, low-hysteresis}
-use Rattle.entry.specs.Limits.{kind-verdict}
-use Rattle.entry.specs.declared.limits.Verdict.{Verdict}
-use Rattle.entry.specs.declared.limits.Verdict.the-variants.{Within, NotANumber, Above, Below}
+use Rattle.limits.specs.Limits.{kind-verdict}
+use Rattle.limits.specs.declared.Verdict.{Verdict}
+use Rattle.limits.specs.declared.Verdict.the-variants.{Within, NotANumber, Above, Below}
 
 -- R3.4
 abbrev pub layout : ℕ
 layout = 1
 
 -- a trip point's fields (R3.2)
-abbrev pub widths : List ℕ
-widths = 1 ∷ 1 ∷ 32 ∷ 32 ∷ 32 ∷ 32 ∷ []
+abbrev pub point-widths : List ℕ
+point-widths = 1 ∷ 1 ∷ 32 ∷ 32 ∷ 32 ∷ 32 ∷ []
 
 -- the bits of a card at which the fields of trip point 1, and again those of 2, begin
 abbrev pub point-1 : ℕ
@@ -47,7 +47,7 @@ point-fields values at =
     []
 
 unfoldable pub point-bits : List ℕ → ℕ → List ℕ
-point-bits values at = encode widths (point-fields values at)
+point-bits values at = encode point-widths (point-fields values at)
 
 -- one behind the other (R3.1)
 unfoldable pub card-bits : List ℕ → List ℕ
@@ -61,7 +61,7 @@ card-of values = packed 33 (card-bits values)
 
 -- the fields of a trip point, from a bit of the card on
 unfoldable pub fields-of : List ℕ → ℕ → List ℕ
-fields-of card at = decode widths (drop at (bits card))
+fields-of card at = decode point-widths (drop at (bits card))
 
 -- ---- judging a card
 

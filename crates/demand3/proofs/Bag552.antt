@@ -13,14 +13,15 @@ use Rattle.order.specs.Gauge.{counted}
 use Rattle.order.specs.Bytes.{Call}
 use Rattle.order.specs.Keep.{Demand3Records, Keeps}
 use Rattle.order.proofs.Kept.{demand3-records}
-use Rattle.table.specs.Row.{Row, RO, WO, CARD, COMMAND}
+use Rattle.table.specs.Row.{Row, RO, WO, CARD, COMMAND, smallest, largest}
 use Rattle.table.specs.Rows.{row-count, at-row}
 use Rattle.table.specs.Rule.{held}
-use Rattle.table.specs.Find.{find-row}
+use Rattle.table.specs.Find.{find-row, row-number}
 use Rattle.table.specs.declared.Found.{Found}
 use Rattle.table.specs.declared.Found.the-variants.{At, NoIndex, NoSub}
+use Rattle.table.proofs.Lengths.{room-allowed, allowed-room}
 use Rattle.table.proofs.Table.{row-rule, find-at}
-use Rattle.entry.specs.Limits.{verdict-code}
+use Rattle.limits.specs.Limits.{verdict-code}
 use Rattle.entry.specs.Entry.{entry-of}
 use Rattle.entry.proofs.RowLaws.{held-most}
 use Rattle.card.proofs.Made.{length-card}
@@ -31,7 +32,7 @@ use Rattle.command.specs.declared.word.Command.{Command}
 use Rattle.command.specs.declared.word.Command.the-variants.{DeviceReset, ExceptionReset, StoreParameters, LoadParameters}
 use Rattle.gauge.specs.Memory.{Memory, Store}
 use Rattle.gauge.specs.Commands.{done, obeyed}
-use Rattle.gauge.specs.Checks.{asked-last, row-number, smallest, largest, Test, no-such-index, no-such-subindex, only-written, only-read, announced-long, announced-short, sent-long, sent-short, under-lock, no-number, too-high, too-low, code-of, last-order, refused-by, unless-refused}
+use Rattle.gauge.specs.Checks.{asked-last, Test, no-such-index, no-such-subindex, only-written, only-read, announced-long, announced-short, sent-long, sent-short, under-lock, no-number, too-high, too-low, code-of, last-order, refused-by, unless-refused}
 use Rattle.gauge.specs.Whole.{by-type, value-of, effect, write-by, commit-row, with-trips, commit-whole}
 use Rattle.gauge.proofs.ByGate.{read-through, sizes-of, commit-through, read-by-gate, sizes-by-gate, commit-by-gate}
 use Rattle.gauge.proofs.ValueLaws.{value-length}
@@ -204,7 +205,7 @@ module _ (k : Key) where
             row = r;
             found = e;
             allowed = readable (at-row r .access) (row-rule r there .access-some) (row-rule r there .access-most) (eqb-false (at-row r .access) WO q);
-            length-is = value-length r there values n;
+            fitting-length = room-allowed (at-row r) (value-length r there values n);
           }
   read-row NoIndex values n e = tt
   read-row NoSub values n e = tt
@@ -228,7 +229,7 @@ module _ (k : Key) where
           row = r;
           found = e;
           allowed = writable (at-row r .access) (row-rule r there .access-some) (eqb-false (at-row r .access) RO q);
-          length-is = refl;
+          fitting-length = room-allowed (at-row r) refl;
         },
       )
   write-row NoIndex e = tt
@@ -252,7 +253,7 @@ commit-good g k bytes ok w = rw (commit-by-gate (k .index) (k .sub) g bytes, w .
     go true = tt
     go false =
         trips-good g (commit-row (w .row) bytes (g .memory))
-        (commit-sized (w .row) (find-at (k .index) (k .sub) (w .row) (w .found) .there) bytes (w .length-is) (g .memory) ok)
+        (commit-sized (w .row) (find-at (k .index) (k .sub) (w .row) (w .found) .there) bytes (allowed-room (at-row (w .row)) (w .fitting-length)) (g .memory) ok)
 
 pub real-rows : Rows bag552 GoodStore
 unfolding ReadRow WriteRow sampled

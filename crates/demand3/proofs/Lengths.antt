@@ -17,20 +17,21 @@ use Rattle.table.specs.Row.{Row, CARD, COMMAND}
 use Rattle.table.specs.Rows.{rows, row-count, at-row}
 use Rattle.table.specs.Places.{input-value, trip-input-1, trip-input-2, reading-valid, status-1, status-2, trip-outputs, sensor-error, active-word, latched-word, summary-byte, power-on-time}
 use Rattle.table.proofs.Table.{rows-length, row-rule}
+use Rattle.table.specs.Find.{row-number}
 use Rattle.entry.proofs.EntryLaws.{length-stored, length-defaults}
 use Rattle.trip.specs.Trip.{usable-pressure}
 use Rattle.trip.specs.declared.Trips.{Trips}
 use Rattle.card.proofs.Stored.{with-card-length}
 use Rattle.block.proofs.Theorems as saved
 use Rattle.sample.specs.Faults.{with-faults, with-summary}
-use Rattle.sample.specs.Sample.{trips-after, with-reading, with-trips, values-after}
+use Rattle.sample.specs.Sample.{trips-after, with-reading, with-trip-entries, values-after}
 use Rattle.command.specs.Words.{command-at, same-bytes, word-of}
 use Rattle.command.specs.declared.word.Command.{Command}
 use Rattle.command.specs.declared.word.Command.the-variants.{DeviceReset, ExceptionReset, StoreParameters, LoadParameters}
 use Rattle.gauge.specs.Memory.{Memory}
 use Rattle.gauge.specs.PowerUp.{fresh-values, powered-up}
 use Rattle.gauge.specs.Commands.{done, obeyed}
-use Rattle.gauge.specs.Checks.{asked-last, row-number, Test, last-order, refused-by, unless-refused}
+use Rattle.gauge.specs.Checks.{asked-last, Test, last-order, refused-by, unless-refused}
 use Rattle.gauge.specs.Whole.{by-type, effect, write-by, commit-row}
 use Rattle.gauge.proofs.CommitLaws.{other-held}
 use Rattle.gauge.proofs.GaugeLaws.{status-length, cleared-length}
@@ -54,8 +55,8 @@ reading-long p valid l e =
     (put-long _ reading-valid 1 _ refl (put-long _ trip-input-2 4 _ refl (put-long _ trip-input-1 4 _ refl (put-long l input-value 4 _ refl e))))
     (put-long l reading-valid 1 0 refl e)
 
-trips-long : (t : Trips) (l : List ℕ) → Long l → Long (with-trips t l)
-unfolding with-trips
+trips-long : (t : Trips) (l : List ℕ) → Long l → Long (with-trip-entries t l)
+unfolding with-trip-entries
 trips-long t l e =
     put-long _ trip-outputs 4 _ refl
     (put-long _ (status-2 + 1) 1 _ refl (put-long _ status-2 1 _ refl (put-long _ (status-1 + 1) 1 _ refl (put-long l status-1 1 _ refl e))))

@@ -11,7 +11,6 @@ use Rattle.order.specs.Observe.{Done}
 use Rattle.sdo.specs.declared.Key.{Key}
 use Rattle.order.specs.Keep.{record-call}
 use Rattle.sdo.specs.Lines.{tool}
-use Rattle.transfer.specs.Records.{transfers}
 use Rattle.line.specs.Gauge.{plain}
 use Rattle.demand3.specs.Firmware.{Exported, to-message, Back, back, history, observed, arrays-after, value-got, ReadOpened}
 use Rattle.demand3.specs.Open.{all-opened, observer-opened}

@@ -12,7 +12,7 @@ use Rattle.order.specs.Observe.{follow}
 use Rattle.order.specs.Bytes.{Call, heard, reads}
 use Rattle.order.specs.Keep.{RecordBoard, record-call, record-talk, RecordParts, NoReset, record-got, RecordEnds}
 use Rattle.order.proofs.Kept.{Shows, opened-ends}
-use Rattle.sdo.specs.Eight.{short, eight}
+use Rattle.sdo.specs.Eight.{eight}
 use Rattle.sdo.proofs.Carries.{clear}
 use Rattle.transfer.specs.Records.{view, transfers}
 use Rattle.line.specs.Gauge.{bag552}

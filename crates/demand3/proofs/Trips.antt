@@ -7,7 +7,7 @@ use lib.Dec.{ltb}
 use lib.ListN.{length}
 use Rattle.order.specs.Talk.{Said, Request, open-read, next-part, expedited, open-write, send-part, give-up, unknown, Answer, write-opened, part-taken, dropped, Sizes, sizes, closed, Outcome, stored, restarted, declined, Pending, idle, reading, writing}
 use Rattle.order.specs.Gauge.{too-long, too-short, by-length, counted, judged, judged-by, allowed, write-whole}
-use Rattle.order.specs.Serve.{Form, toggle-code, over, Served, keeping, conclude, take-part, write-part, serve}
+use Rattle.order.specs.Serve.{Form, toggle-code, over, Served, keeping, conclude, take-part, serve}
 use Rattle.order.specs.Keep.{is-wiped, speak}
 use Rattle.trip.specs.Trip.{all-off}
 use Rattle.gauge.specs.Memory.{Memory, Store}

@@ -10,10 +10,10 @@ use borrow.Author.Tests.{leb-true, lt-ltb}
 use Rattle.bits.specs.Bits.{bits, field}
 use Rattle.table.specs.Row.{REAL}
 use Rattle.table.specs.Rule.{pick, rank, real-rank}
-use Rattle.entry.specs.Ranks.{rank-verdict}
-use Rattle.entry.specs.declared.limits.Verdict.{Verdict}
-use Rattle.entry.specs.declared.limits.Verdict.the-variants.{Within, NotANumber, Above, Below}
-use Rattle.entry.proofs.LimitsLaws.{Patterns, by-ranks, rank-within}
+use Rattle.limits.specs.Ranks.{rank-verdict}
+use Rattle.limits.specs.declared.Verdict.{Verdict}
+use Rattle.limits.specs.declared.Verdict.the-variants.{Within, NotANumber, Above, Below}
+use Rattle.limits.proofs.LimitsLaws.{Patterns, by-ranks, rank-within}
 use Rattle.card.specs.Card.{point-1, point-2, fields-of, level-verdict, layout-verdict, first-bad, point-verdict, plainly-within, card-verdict}
 
 level-patterns : (v : ℕ) → v < 4294967296 → Patterns 0 0x44BB8000 v

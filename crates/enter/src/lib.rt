@@ -1,5 +1,5 @@
 // A trip card that is written: its fields, its judgement, and the write into the trip entries.
-use entry::limits::Verdict;
+use limits::Verdict;
 use table::kind;
 use table::place;
 use wire::wide;
@@ -66,7 +66,7 @@ fn judge_layout(v: u32) -> Verdict
 fn judge_level(v: u32) -> Verdict
     ensures { λ r. ⌜ r ≡ level-verdict v ⌝ }
 {
-    entry::limits::judge_number(kind::REAL, 0x80000000, 0xC4BB8000, v)
+    limits::judge_number(kind::REAL, 0x80000000, 0xC4BB8000, v)
 }
 
 fn first(a: Verdict, b: Verdict) -> Verdict

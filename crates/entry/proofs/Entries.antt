@@ -10,7 +10,7 @@ use Rattle.table.specs.Rows.{rows, row-count, at-row}
 use Rattle.table.specs.Rule.{held, table-ok}
 use Rattle.table.proofs.Rules.{rule-at, before-at, apart-at}
 use Rattle.table.proofs.Table.{rows-pass, rows-length, row-rule}
-use Rattle.entry.specs.Entry.{entry-of, stored, default-of, defaults}
+use Rattle.entry.specs.Entry.{entry-of, with-entry, default-of, defaults}
 use Rattle.entry.proofs.EntryLaws.{zero-at, default-zero, Beside-all, Inside, Rising, length-stored, stored-read, stored-other, length-defaults, defaults-read, defaults-byte}
 
 module _ (xs : List Row) (pass : T (table-ok xs)) where
@@ -25,13 +25,13 @@ module _ (xs : List Row) (pass : T (table-ok xs)) where
     room : getD xs k no-row .place + held (getD xs k no-row) ≤ length values
     room = rw long (inside k there)
 
-    pub store-length : length (stored (getD xs k no-row) values bytes) ≡ 1024
+    pub store-length : length (with-entry (getD xs k no-row) values bytes) ≡ 1024
     store-length = length-stored (getD xs k no-row) values bytes room fit ∙ long
 
-    pub store-read : entry-of (getD xs k no-row) (stored (getD xs k no-row) values bytes) ≡ bytes
+    pub store-read : entry-of (getD xs k no-row) (with-entry (getD xs k no-row) values bytes) ≡ bytes
     store-read = stored-read (getD xs k no-row) values bytes room fit
 
-    pub store-other : (j : ℕ) → j < length xs → (k ≡ j → ⊥) → entry-of (getD xs j no-row) (stored (getD xs k no-row) values bytes) ≡ entry-of (getD xs j no-row) values
+    pub store-other : (j : ℕ) → j < length xs → (k ≡ j → ⊥) → entry-of (getD xs j no-row) (with-entry (getD xs k no-row) values bytes) ≡ entry-of (getD xs j no-row) values
     store-other j h d = stored-other (getD xs k no-row) values bytes room fit (getD xs j no-row) (apart-at xs pass k j there h d)
 
   -- all defaults: the values keep their length, each row reads as its default, and a byte of no row stays
@@ -46,8 +46,8 @@ module _ (xs : List Row) (pass : T (table-ok xs)) where
     all-byte i b = defaults-byte 1024 xs inside values long i b
 
   -- on zeros: bytes of no entry are zero (R9.2)
-  pub all-zero : (i : ℕ) → Beside-all xs i 1 → getD (defaults xs (replicate 1024 0)) i 0 ≡ 0
-  all-zero i b = all-byte (replicate 1024 0) (length-replicate {A = ℕ} 1024 0) i b ∙ zero-at 1024 i
+  pub zero-beside : (i : ℕ) → Beside-all xs i 1 → getD (defaults xs (replicate 1024 0)) i 0 ≡ 0
+  zero-beside i b = all-byte (replicate 1024 0) (length-replicate {A = ℕ} 1024 0) i b ∙ zero-at 1024 i
 
 -- ---- the object table
 
@@ -55,13 +55,13 @@ inside-rows : {k : ℕ} → k < row-count → k < length rows
 inside-rows h = omega (arith, rows-length)
 
 module _ (k : ℕ) (there : k < row-count) (values bytes : List ℕ) (long : length values ≡ 1024) (fit : length bytes ≡ held (at-row k)) where
-  pub row-store-length : length (stored (at-row k) values bytes) ≡ 1024
+  pub row-store-length : length (with-entry (at-row k) values bytes) ≡ 1024
   row-store-length = store-length rows rows-pass k (inside-rows there) values bytes long fit
 
-  pub row-store-read : entry-of (at-row k) (stored (at-row k) values bytes) ≡ bytes
+  pub row-store-read : entry-of (at-row k) (with-entry (at-row k) values bytes) ≡ bytes
   row-store-read = store-read rows rows-pass k (inside-rows there) values bytes long fit
 
-  pub row-store-other : (j : ℕ) → j < row-count → (k ≡ j → ⊥) → entry-of (at-row j) (stored (at-row k) values bytes) ≡ entry-of (at-row j) values
+  pub row-store-other : (j : ℕ) → j < row-count → (k ≡ j → ⊥) → entry-of (at-row j) (with-entry (at-row k) values bytes) ≡ entry-of (at-row j) values
   row-store-other j h d = store-other rows rows-pass k (inside-rows there) values bytes long fit j (inside-rows h) d
 
 module _ (values : List ℕ) (long : length values ≡ 1024) where

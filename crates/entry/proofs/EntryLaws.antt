@@ -15,7 +15,7 @@ use Rattle.wire.proofs.SpliceLaws.{length-splice, part-length, is-apart, part-s
 use Rattle.wire.proofs.LittleLaws.{length-little}
 use Rattle.table.specs.Row.{Row, no-row}
 use Rattle.table.specs.Rule.{held}
-use Rattle.entry.specs.Entry.{entry-of, stored, default-of, defaulted, defaults}
+use Rattle.entry.specs.Entry.{entry-of, with-entry, default-of, defaulted, defaults}
 
 -- ---- one row
 
@@ -27,23 +27,23 @@ module _ (r : Row) (values bytes : List ℕ) (inside : r .place + held r ≤ len
   room : leb (r .place) (length values) ≡ true
   room = le-leb (r .place) (length values) (omega arith)
 
-  pub length-stored : length (stored r values bytes) ≡ length values
-  unfolding stored
+  pub length-stored : length (with-entry r values bytes) ≡ length values
+  unfolding with-entry
   length-stored = length-splice values (r .place) bytes (omega arith)
 
   -- what was stored is read back
-  pub stored-read : entry-of r (stored r values bytes) ≡ bytes
-  unfolding stored entry-of
+  pub stored-read : entry-of r (with-entry r values bytes) ≡ bytes
+  unfolding with-entry entry-of
   stored-read = part-same values (r .place) bytes room (held r) fit
 
   -- storing leaves the bytes beside the row
-  pub stored-beside : (q m : ℕ) → Beside r q m → take m (drop q (stored r values bytes)) ≡ take m (drop q values)
-  unfolding stored
+  pub stored-beside : (q m : ℕ) → Beside r q m → take m (drop q (with-entry r values bytes)) ≡ take m (drop q values)
+  unfolding with-entry
   stored-beside q m b =
       part-apart values (r .place) bytes room q m (rw fit (is-apart (r .place) (held r) q m b))
 
   -- and so another row's entry
-  pub stored-other : (q : Row) → Beside r (q .place) (held q) → entry-of q (stored r values bytes) ≡ entry-of q values
+  pub stored-other : (q : Row) → Beside r (q .place) (held q) → entry-of q (with-entry r values bytes) ≡ entry-of q values
   unfolding entry-of
   stored-other q b = stored-beside (q .place) (held q) b
 

@@ -12,7 +12,7 @@ use Rattle.wire.specs.Splice.{splice}
 use Rattle.wire.specs.Little.{little}
 use Rattle.table.specs.Row.{Row}
 use Rattle.table.specs.Rule.{held}
-use Rattle.entry.specs.Entry.{entry-of, copied, stored}
+use Rattle.entry.specs.Entry.{entry-of, copied, with-entry}
 use Rattle.entry.specs.Words.{worded, Room}
 use Rattle.table.specs.Walk.{every}
 use Rattle.table.proofs.Walks.{every-at}
@@ -22,8 +22,8 @@ module _ (r : Row) (values : List ℕ) {x : List ℕ} {p : ℕ} (place : p ≡ r
   unfolding copied entry-of
   copied-is n e = e ∙ rw (n, place)
 
-  pub stored-is : (bytes : List ℕ) → x ≡ splice values p (take (length bytes) (drop 0 bytes)) → x ≡ stored r values bytes
-  unfolding stored
+  pub stored-is : (bytes : List ℕ) → x ≡ splice values p (take (length bytes) (drop 0 bytes)) → x ≡ with-entry r values bytes
+  unfolding with-entry
   stored-is bytes e = e ∙ rw (take-all (length bytes) bytes (le-refl (length bytes)), place)
 
 -- the words from i on begin with word i

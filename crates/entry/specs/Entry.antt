@@ -1,15 +1,12 @@
--- RULE: one row's entry in the values (R1.3, R1.6): what it reads as, what storing and its default make of the values, and its judgement.
-use mathlib.Core.Bool.{cond}
+-- RULE: one row's entry in the values (R1.3, R1.6): what it reads as, what storing and its default make of the values.
 use mathlib.Core.List.{List, [], _∷_}
 use Prim.Native.Nat.{ℕ}
-use lib.Dec.{leb, eqb}
+use lib.Dec.{leb}
 use lib.ListN.{take, drop, replicate}
 use Rattle.wire.specs.Splice.{splice}
-use Rattle.wire.specs.Little.{little, fromLittle}
-use Rattle.table.specs.Row.{Row, USINT, UINT, CARD}
+use Rattle.wire.specs.Little.{little}
+use Rattle.table.specs.Row.{Row, CARD}
 use Rattle.table.specs.Rule.{pick, held}
-use Rattle.entry.specs.Limits.{kind-verdict}
-use Rattle.entry.specs.declared.limits.Verdict.{Verdict}
 
 -- `held`, by the type and the length alone
 unfoldable pub held-by : ℕ → ℕ → ℕ
@@ -24,29 +21,17 @@ unfoldable pub copied : Row → List ℕ → List ℕ
 copied r values = splice (replicate 64 0) 0 (entry-of r values)
 
 -- the values with these bytes as the row's
-unfoldable pub stored : Row → List ℕ → List ℕ → List ℕ
-stored r values bytes = splice values (r .place) bytes
+unfoldable pub with-entry : Row → List ℕ → List ℕ → List ℕ
+with-entry r values bytes = splice values (r .place) bytes
 
 -- a row's default (R2.1, R2.7)
 unfoldable pub default-of : Row → List ℕ
 default-of r = little (held r) (r .def)
 
 unfoldable pub defaulted : Row → List ℕ → List ℕ
-defaulted r values = stored r values (default-of r)
+defaulted r values = with-entry r values (default-of r)
 
 -- all defaults, in the order of the table (R9.1)
 unfoldable pub defaults : List Row → List ℕ → List ℕ
 defaults [] values = values
 defaults (r ∷ rs) values = defaults rs (defaulted r values)
-
--- the bytes that are looked at as a number, by the type: a ULINT's are not asked for, and of a string they are the first four
-unfoldable pub number-len : ℕ → ℕ
-number-len kind = cond (leb kind USINT) 1 (cond (eqb kind UINT) 2 4)
-
--- a number against a row's limits
-unfoldable pub number-verdict : Row → ℕ → Verdict
-number-verdict r v = kind-verdict (r .kind) (r .low) (r .high) v
-
--- bytes against a row's limits
-unfoldable pub row-verdict : Row → List ℕ → Verdict
-row-verdict r bytes = number-verdict r (fromLittle bytes)

@@ -8,14 +8,14 @@ use Prim.Native.Nat.{ℕ}
 use lib.Dec.{eqb}
 use Rattle.order.specs.Talk.{unsaid, Read, value, denied, Sizes, sizes, closed, Outcome, declined}
 use Rattle.order.specs.Gauge.{counted}
-use Rattle.table.specs.Row.{RO, WO}
+use Rattle.table.specs.Row.{RO, WO, smallest, largest}
 use Rattle.table.specs.Rows.{at-row}
-use Rattle.table.specs.Find.{find-row}
+use Rattle.table.specs.Find.{find-row, row-number}
 use Rattle.table.specs.declared.Found.{Found}
 use Rattle.table.specs.declared.Found.the-variants.{At, NoIndex, NoSub}
 use Rattle.gate.specs.Gates.{Way, to-row, no-way, gate, read-gate, write-gate}
 use Rattle.gauge.specs.Memory.{Store}
-use Rattle.gauge.specs.Checks.{asked, asked-key, row-number, smallest, largest, Test, no-such-index, no-such-subindex, only-written, only-read, code-of, is-no-index, is-no-sub, fails, read-order, key-order, last-order, refused-by, unless-refused}
+use Rattle.gauge.specs.Checks.{asked, asked-key, Test, no-such-index, no-such-subindex, only-written, only-read, code-of, is-no-index, is-no-sub, fails, read-order, key-order, last-order, refused-by, unless-refused}
 use Rattle.gauge.specs.Whole.{value-of, read-checked, read-whole, sizes-checked, write-sizes, effect, write-by, commit-row, with-trips, commit-whole}
 use Rattle.gauge.proofs.InOrder.{parted}
 
@@ -47,7 +47,7 @@ read-through (to-row r) values = value (value-of (at-row r) values)
 read-through (no-way code) values = denied code
 
 unfoldable pub sizes-of : Way → Sizes
-sizes-of (to-row r) = sizes (smallest r) (largest r)
+sizes-of (to-row r) = sizes (smallest (at-row r)) (largest (at-row r))
 sizes-of (no-way code) = closed code
 
 unfoldable pub commit-through : Way → Store → List ℕ → Outcome Store
@@ -62,7 +62,7 @@ module _ (index sub : ℕ) where
   unfolding write-sizes sizes-checked unless-refused sizes-of
   sizes-by-gate = go (refused-by (asked-key found) key-order) ∙ ap sizes-of (sym (write-gate-checks found))
     where
-      go : (o : Option Test) → unless-refused o closed (sizes (smallest (row-number found)) (largest (row-number found))) ≡ sizes-of (unless-refused o no-way (to-row (row-number found)))
+      go : (o : Option Test) → unless-refused o closed (sizes (smallest (at-row (row-number found))) (largest (at-row (row-number found)))) ≡ sizes-of (unless-refused o no-way (to-row (row-number found)))
       go none = refl
       go (some t) = refl
 

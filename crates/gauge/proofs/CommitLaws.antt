@@ -15,16 +15,15 @@ use Rattle.table.specs.Rows.{row-count, at-row}
 use Rattle.table.specs.Rule.{held}
 use Rattle.table.proofs.Widths.{card-width}
 use Rattle.table.proofs.Table.{row-rule}
-use Rattle.entry.specs.Limits.{verdict-code}
-use Rattle.entry.specs.Entry.{copied, row-verdict}
-use Rattle.entry.specs.Entry as entry
-use Rattle.entry.specs.declared.limits.Verdict.{Verdict}
-use Rattle.entry.specs.declared.limits.Verdict.the-variants.{Within, NotANumber, Above, Below}
+use Rattle.limits.specs.Limits.{verdict-code, row-verdict}
+use Rattle.entry.specs.Entry.{entry-of, copied, with-entry}
+use Rattle.limits.specs.declared.Verdict.{Verdict}
+use Rattle.limits.specs.declared.Verdict.the-variants.{Within, NotANumber, Above, Below}
 use Rattle.entry.proofs.RowLaws.{held-is}
 use Rattle.card.specs.Card.{card-of, card-verdict, with-card}
-use Rattle.block.specs.Saved.{storable, loadable, loaded}
-use Rattle.block.specs.Saved as saved
+use Rattle.block.specs.Saved.{storable, stored-block, loadable, loaded}
 use Rattle.table.specs.Codes.{lock-shut}
+use Rattle.table.specs.Find.{row-number}
 use Rattle.gate.specs.Lock.{locked}
 use Rattle.command.specs.Words.{command-at, word-of, read-word, with-status, same-bytes}
 use Rattle.command.specs.Exceptions.{exceptions-cleared}
@@ -34,7 +33,7 @@ use Rattle.gauge.specs.Memory.{Memory, memory-of}
 use Rattle.gauge.specs.PowerUp.{fresh-values, powered-up}
 use Rattle.gauge.specs.Commands.{status-by, done, obeyed}
 use Rattle.gauge.specs.Endings.{Left, left, left-by}
-use Rattle.gauge.specs.Checks.{asked-last, row-number, Test, code-of, verdict-of, fails, last-order, refused-by, unless-refused, told}
+use Rattle.gauge.specs.Checks.{asked-last, Test, code-of, verdict-of, fails, last-order, refused-by, unless-refused, code-told}
 use Rattle.gauge.specs.Whole.{by-type, value-of, effect, write-by, commit-row}
 use Rattle.gauge.specs.declared.commit.Ending.the-variants.{Accepted, Restarted, Refused}
 use Rattle.gauge.proofs.InOrder.{none-told}
@@ -66,12 +65,12 @@ other-held k h n m = held-is (at-row k) (below (at-row k .kind) (row-rule k h .k
 -- ---- the last checks
 
 module _ (row : ℕ) (values bytes : List ℕ) where
-  pub lock-refuses : locked (at-row row) values ≡ true → lock-shut ≡ told (refused-by (asked-last row bytes values) last-order)
+  pub lock-refuses : locked (at-row row) values ≡ true → lock-shut ≡ code-told (refused-by (asked-last row bytes values) last-order)
   unfolding refused-by last-order fails unless-refused code-of row-number
   lock-refuses e = rw e
 
   -- the three tests of the limits give the verdict's own code
-  pub limits-first : (v : Verdict) → verdict-of (at-row row) bytes ≡ v → locked (at-row row) values ≡ false → verdict-code v ≡ told (refused-by (asked-last row bytes values) last-order)
+  pub limits-first : (v : Verdict) → verdict-of (at-row row) bytes ≡ v → locked (at-row row) values ≡ false → verdict-code v ≡ code-told (refused-by (asked-last row bytes values) last-order)
   unfolding refused-by last-order fails unless-refused code-of row-number counted verdict-code
   limits-first Within e l = rw (l, e)
   limits-first NotANumber e l = rw (l, e)
@@ -99,7 +98,7 @@ module _ (v b : List ℕ) where
   unfolding done left-by
   exceptions-done e₁ e₂ = rw (e₂, e₁)
 
-  pub store-done : {v′ b′ : List ℕ} {right : Bool} {code : ℕ} → right ≡ storable v → b′ ≡ saved.stored v b → code ≡ status-by right
+  pub store-done : {v′ b′ : List ℕ} {right : Bool} {code : ℕ} → right ≡ storable v → b′ ≡ stored-block v b → code ≡ status-by right
       → v′ ≡ with-status StoreParameters code v → left Accepted v′ b′ ≡ left-by (memory-of v b) (done StoreParameters (memory-of v b))
   unfolding done left-by
   store-done er eb ec ev = rw (ev, eb, ec, er)
@@ -123,23 +122,23 @@ module _ (v b : List ℕ) where
   module _ (r : Row) (bytes : List ℕ) (k : ℕ) (kind : k ≡ r .kind) where
     pub put-card : {v′ : List ℕ} → k ≡ CARD → v′ ≡ with-card v bytes → left Accepted v′ b ≡ left-by (memory-of v b) (effect r bytes (memory-of v b))
     unfolding effect left-by
-    put-card e q = rw (of-card r k kind (stored (memory-of (with-card v bytes) b)) (obeyed (command-at (r .index)) bytes (memory-of v b)) (stored (memory-of (entry.stored r v bytes) b)) e, q)
+    put-card e q = rw (of-card r k kind (stored (memory-of (with-card v bytes) b)) (obeyed (command-at (r .index)) bytes (memory-of v b)) (stored (memory-of (with-entry r v bytes) b)) e, q)
 
     pub put-command : {x : Left} → k ≡ COMMAND → x ≡ left-by (memory-of v b) (obeyed (command-at (r .index)) bytes (memory-of v b))
         → x ≡ left-by (memory-of v b) (effect r bytes (memory-of v b))
     unfolding effect
-    put-command e q = rw (of-command r k kind (stored (memory-of (with-card v bytes) b)) (obeyed (command-at (r .index)) bytes (memory-of v b)) (stored (memory-of (entry.stored r v bytes) b)) e) q
+    put-command e q = rw (of-command r k kind (stored (memory-of (with-card v bytes) b)) (obeyed (command-at (r .index)) bytes (memory-of v b)) (stored (memory-of (with-entry r v bytes) b)) e) q
 
-    pub put-other : {v′ : List ℕ} → (k ≡ CARD → ⊥) → (k ≡ COMMAND → ⊥) → v′ ≡ entry.stored r v bytes → left Accepted v′ b ≡ left-by (memory-of v b) (effect r bytes (memory-of v b))
+    pub put-other : {v′ : List ℕ} → (k ≡ CARD → ⊥) → (k ≡ COMMAND → ⊥) → v′ ≡ with-entry r v bytes → left Accepted v′ b ≡ left-by (memory-of v b) (effect r bytes (memory-of v b))
     unfolding effect left-by
-    put-other n m q = rw (of-other r k kind (stored (memory-of (with-card v bytes) b)) (obeyed (command-at (r .index)) bytes (memory-of v b)) (stored (memory-of (entry.stored r v bytes) b)) n m, q)
+    put-other n m q = rw (of-other r k kind (stored (memory-of (with-card v bytes) b)) (obeyed (command-at (r .index)) bytes (memory-of v b)) (stored (memory-of (with-entry r v bytes) b)) n m, q)
 
-  module _ (code : ℕ) (o : Option Test) (first : code ≡ told o) (done : Outcome Memory) where
+  module _ (code : ℕ) (o : Option Test) (first : code ≡ code-told o) (done : Outcome Memory) where
     refused-left : (code ≡ 0 → ⊥) → left (Refused code) v b ≡ left-by (memory-of v b) (unless-refused o declined done)
     unfolding unless-refused left-by
     refused-left n = go o first
       where
-        go : (o : Option Test) → code ≡ told o → left (Refused code) v b ≡ left-by (memory-of v b) (unless-refused o declined done)
+        go : (o : Option Test) → code ≡ code-told o → left (Refused code) v b ≡ left-by (memory-of v b) (unless-refused o declined done)
         go none e = absurd (n e)
         go (some t) e = rw e
 
@@ -147,7 +146,7 @@ module _ (v b : List ℕ) where
     unfolding unless-refused
     accepted-left z q = rw (none-told o (sym first ∙ z)) q
 
-  module _ (row : ℕ) (bytes : List ℕ) (code : ℕ) (first : code ≡ told (refused-by (asked-last row bytes v) last-order)) where
+  module _ (row : ℕ) (bytes : List ℕ) (code : ℕ) (first : code ≡ code-told (refused-by (asked-last row bytes v) last-order)) where
     pub commit-refused : (code ≡ 0 → ⊥) → left (Refused code) v b ≡ left-by (memory-of v b) (commit-row row bytes (memory-of v b))
     unfolding commit-row write-by counted row-number
     commit-refused n = refused-left code _ first _ n
@@ -159,18 +158,18 @@ module _ (v b : List ℕ) where
 -- ---- the value of a row
 
 -- what is neither stored nor the card is a command word
-pub word-left : (row kind : ℕ) → row < row-count → kind ≡ at-row row .kind → 7 ≤ kind → (kind ≡ CARD → ⊥) → at-row row .kind ≡ COMMAND
+pub word-left : (row kind : ℕ) → row < row-count → kind ≡ at-row row .kind → CARD ≤ kind → (kind ≡ CARD → ⊥) → at-row row .kind ≡ COMMAND
 word-left row kind h e l n = omega (arith, row-rule row h .kind-known, e, l, n)
 
 module _ (r : Row) (values : List ℕ) (k : ℕ) (kind : k ≡ r .kind) where
   pub read-card : {x : List ℕ} → k ≡ CARD → x ≡ splice (replicate 64 0) 0 (card-of values) → x ≡ splice (replicate 64 0) 0 (value-of r values)
   unfolding value-of
-  read-card e q = rw (of-card r k kind (card-of values) (read-word (command-at (r .index))) (entry.entry-of r values) e) q
+  read-card e q = rw (of-card r k kind (card-of values) (read-word (command-at (r .index))) (entry-of r values) e) q
 
   pub read-command : {x : List ℕ} → k ≡ COMMAND → x ≡ splice (replicate 64 0) 0 (read-word (command-at (r .index))) → x ≡ splice (replicate 64 0) 0 (value-of r values)
   unfolding value-of
-  read-command e q = rw (of-command r k kind (card-of values) (read-word (command-at (r .index))) (entry.entry-of r values) e) q
+  read-command e q = rw (of-command r k kind (card-of values) (read-word (command-at (r .index))) (entry-of r values) e) q
 
   pub read-other : {x : List ℕ} → (k ≡ CARD → ⊥) → (k ≡ COMMAND → ⊥) → x ≡ copied r values → x ≡ splice (replicate 64 0) 0 (value-of r values)
   unfolding value-of copied
-  read-other n m q = rw (of-other r k kind (card-of values) (read-word (command-at (r .index))) (entry.entry-of r values) n m) q
+  read-other n m q = rw (of-other r k kind (card-of values) (read-word (command-at (r .index))) (entry-of r values) n m) q

@@ -19,15 +19,14 @@ use Rattle.table.specs.Row.{Row, no-row, CARD, COMMAND}
 use Rattle.table.specs.Rows.{rows, row-count, at-row}
 use Rattle.table.specs.Rule.{pick, held}
 use Rattle.table.specs.Walk.{every}
-use Rattle.table.specs.Find.{find-row}
+use Rattle.table.specs.Find.{find-row, row-number}
 use Rattle.table.proofs.Walks.{every-at}
 use Rattle.table.proofs.Table.{rows-length, lock-found}
 use Rattle.table.specs.Places.{latched-status, latched-size, latched, summary-byte}
-use Rattle.entry.specs.Limits.{verdict-code}
-use Rattle.entry.specs.Entry.{entry-of}
-use Rattle.entry.specs.Entry as entry
-use Rattle.entry.specs.declared.limits.Verdict.{Verdict}
-use Rattle.entry.specs.declared.limits.Verdict.the-variants.{Within, NotANumber, Above, Below}
+use Rattle.limits.specs.Limits.{verdict-code}
+use Rattle.entry.specs.Entry.{entry-of, with-entry}
+use Rattle.limits.specs.declared.Verdict.{Verdict}
+use Rattle.limits.specs.declared.Verdict.the-variants.{Within, NotANumber, Above, Below}
 use Rattle.entry.proofs.Entries.{row-store-read}
 use Rattle.card.specs.Card.{card-of, with-card}
 use Rattle.card.proofs.RoundTrip.{card-back}
@@ -43,7 +42,7 @@ use Rattle.gauge.specs.Memory.{Memory, with-values}
 use Rattle.gauge.specs.PowerUp.{powered-up}
 use Rattle.gauge.specs.Commands.{done, obeyed}
 use Rattle.gauge.specs.Endings.{left, left-by}
-use Rattle.gauge.specs.Checks.{asked, asked-last, fails, under-lock, row-number, Test, verdict-of, last-order, refused-by, unless-refused, told}
+use Rattle.gauge.specs.Checks.{asked, asked-last, fails, under-lock, Test, verdict-of, last-order, refused-by, unless-refused, code-told}
 use Rattle.gauge.specs.Whole.{value-of, effect, write-by, commit-row}
 use Rattle.gauge.specs.declared.commit.Ending.the-variants.{Refused}
 use Rattle.gauge.proofs.InOrder.{each-passes}
@@ -93,7 +92,7 @@ module _ (row : ℕ) (bytes : List ℕ) (m n : Memory) (done : commit-row row by
 
   pub accepted-within : verdict-of (at-row row) bytes ≡ Within
   unfolding unless-refused
-  accepted-within = no-code (verdict-of (at-row row) bytes) (limits-first row (m .values) bytes (verdict-of (at-row row) bytes) refl accepted-unlocked ∙ ap told (passed .0))
+  accepted-within = no-code (verdict-of (at-row row) bytes) (limits-first row (m .values) bytes (verdict-of (at-row row) bytes) refl accepted-unlocked ∙ ap code-told (passed .0))
 
 -- a stored entry reads as the bytes that were written
 module _ (k : ℕ) (there : k < row-count) (no-card : at-row k .kind ≡ CARD → ⊥) (no-command : at-row k .kind ≡ COMMAND → ⊥) where
@@ -101,7 +100,7 @@ module _ (k : ℕ) (there : k < row-count) (no-card : at-row k .kind ≡ CARD �
   unfolding effect value-of
   write-read bytes m n long size e =
       let r : Row = at-row k in
-      let v : entry.stored r (m .values) bytes ≡ n .values = ap (λ (x : Memory). x .values) (only-one _ n (sym (of-other r (r .kind) refl _ _ _ no-card no-command) ∙ passed k bytes m n e .1)) in
+      let v : with-entry r (m .values) bytes ≡ n .values = ap (λ (x : Memory). x .values) (only-one _ n (sym (of-other r (r .kind) refl _ _ _ no-card no-command) ∙ passed k bytes m n e .1)) in
       of-other r (r .kind) refl _ _ _ no-card no-command
       ∙ ap (entry-of r) (sym v)
       ∙ row-store-read k there (m .values) bytes long (size ∙ sym (other-held k there no-card no-command))

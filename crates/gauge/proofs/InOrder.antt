@@ -12,9 +12,10 @@ use Rattle.order.specs.Talk.{Said, announced, unsaid, own, Sizes, sizes, closed
 use Rattle.order.specs.Gauge.{Gauge, too-long, too-short, narrowed, narrow, counted, by-length, judged, judged-by, write-whole}
 use Rattle.table.specs.Find.{find-row}
 use Rattle.table.specs.declared.Found.{Found}
-use Rattle.entry.specs.Limits.{verdict-code}
+use Rattle.table.specs.Row.{smallest, largest}
+use Rattle.limits.specs.Limits.{verdict-code}
 use Rattle.gauge.specs.Memory.{Memory, Store}
-use Rattle.gauge.specs.Checks.{Asked, asked, asked-key, number-asked, row-asked, smallest, largest, sent, least, most, Test, no-such-index, no-such-subindex, only-written, only-read, announced-long, announced-short, sent-long, sent-short, under-lock, no-number, too-high, too-low, code-of, says-above, says-below, fails, key-order, length-order, last-order, write-order, refused-by, unless-refused, told}
+use Rattle.gauge.specs.Checks.{Asked, asked, asked-key, row-asked, sent, least, most, Test, no-such-index, no-such-subindex, only-written, only-read, announced-long, announced-short, sent-long, sent-short, under-lock, no-number, too-high, too-low, code-of, says-above, says-below, fails, key-order, length-order, last-order, write-order, refused-by, unless-refused, code-told}
 use Rattle.gauge.specs.Whole.{read-whole, sizes-checked, write-sizes, effect, write-by, with-trips, commit-whole, write-checked}
 
 -- ---- the first that fails
@@ -44,7 +45,7 @@ coded too-high e = omega arith
 coded too-low e = omega arith
 
 -- and only where nothing refuses is 0 told
-pub none-told : (o : Option Test) → told o ≡ 0 → o ≡ none
+pub none-told : (o : Option Test) → code-told o ≡ 0 → o ≡ none
 unfolding unless-refused
 none-told none e = refl
 none-told (some t) e = absurd (coded t e)
@@ -152,10 +153,10 @@ module _ (K S : Type 0) (index sub : K → ℕ) (sampled : Store → S → Store
       committed e = ap (with-trips g) (parted (asked found unsaid (sent all-asked) (g .memory .values)) key-order last-order declined done ∙ rw e)
 
       by-key : (o : Option Test) → refused-by (asked-key found) key-order ≡ o
-          → judged-by plain-by g k s bytes (narrow (unless-refused o closed (sizes (smallest (number-asked all-asked)) (largest (number-asked all-asked)))) s)
+          → judged-by plain-by g k s bytes (narrow (unless-refused o closed (sizes (smallest (row-asked all-asked)) (largest (row-asked all-asked)))) s)
           ≡ with-trips g (unless-refused o declined (unless-refused (refused-by all-asked (length-order ++ last-order)) declined done))
       unfolding narrow judged-by with-trips unless-refused refused-by length-order last-order fails
-      by-key none e = lengths (smallest (number-asked all-asked)) (largest (number-asked all-asked)) s (refused-by all-asked last-order) done (committed e)
+      by-key none e = lengths (smallest (row-asked all-asked)) (largest (row-asked all-asked)) s (refused-by all-asked last-order) done (committed e)
       by-key (some t) e = refl
 
       pub write-in-order : write-whole plain-by g k s bytes ≡ write-checked g all-asked

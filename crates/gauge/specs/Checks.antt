@@ -8,16 +8,16 @@ use lib.Dec.{ltb, eqb}
 use lib.ListN.{length}
 use Rattle.order.specs.Talk.{Said, announced, unsaid, own}
 use Rattle.order.specs.Gauge.{too-long, too-short, counted}
-use Rattle.table.specs.Row.{Row, RO, WO, CARD}
-use Rattle.table.specs.Rows.{row-count, at-row}
+use Rattle.table.specs.Row.{Row, smallest, largest, RO, WO, CARD}
+use Rattle.table.specs.Rows.{at-row}
+use Rattle.table.specs.Find.{row-number}
 use Rattle.table.specs.declared.Found.{Found}
 use Rattle.table.specs.declared.Found.the-variants.{At, NoIndex, NoSub}
 use Rattle.table.specs.Codes.{index-absent, subindex-absent, write-only, read-only, lock-shut}
 use Rattle.gate.specs.Lock.{locked}
-use Rattle.entry.specs.Limits.{verdict-code}
-use Rattle.entry.specs.Entry.{row-verdict}
-use Rattle.entry.specs.declared.limits.Verdict.{Verdict}
-use Rattle.entry.specs.declared.limits.Verdict.the-variants.{NotANumber, Above, Below}
+use Rattle.limits.specs.Limits.{verdict-code, row-verdict}
+use Rattle.limits.specs.declared.Verdict.{Verdict}
+use Rattle.limits.specs.declared.Verdict.the-variants.{NotANumber, Above, Below}
 use Rattle.card.specs.Card.{card-verdict}
 
 -- ---- what is asked
@@ -40,28 +40,13 @@ asked-key found = asked found unsaid [] []
 abbrev pub asked-last : ℕ → List ℕ → List ℕ → Asked
 asked-last row bytes values = asked (At row) unsaid bytes values
 
--- the number of the row, behind the last where there is none
-unfoldable pub row-number : Found → ℕ
-row-number (At r) = r
-row-number NoIndex = row-count
-row-number NoSub = row-count
-
-abbrev pub number-asked : Asked → ℕ
-number-asked a = row-number (a .found)
-
+-- the row of zeros where there is none
 abbrev pub row-asked : Asked → Row
-row-asked a = at-row (number-asked a)
-
--- the smallest and the largest length of a row's entry: in the base they are one
-unfoldable pub smallest : ℕ → ℕ
-smallest r = at-row r .len
-
-unfoldable pub largest : ℕ → ℕ
-largest r = at-row r .len
+row-asked a = at-row (row-number (a .found))
 
 -- the bytes that count
 abbrev pub sent : Asked → List ℕ
-sent a = counted (a .said) (largest (number-asked a)) (a .bytes)
+sent a = counted (a .said) (largest (row-asked a)) (a .bytes)
 
 -- the smallest and the largest length that may be sent: the one announced or meant, or else the table's
 unfoldable pub least : ℕ → ℕ → Said → ℕ
@@ -137,10 +122,10 @@ fails no-such-index a = is-no-index (a .found)
 fails no-such-subindex a = is-no-sub (a .found)
 fails only-written a = eqb (row-asked a .access) WO
 fails only-read a = eqb (row-asked a .access) RO
-fails announced-long a = says-above (largest (number-asked a)) (a .said)
-fails announced-short a = says-below (smallest (number-asked a)) (a .said)
-fails sent-long a = ltb (most (largest (number-asked a)) (a .said)) (length (sent a))
-fails sent-short a = ltb (length (sent a)) (least (smallest (number-asked a)) (largest (number-asked a)) (a .said))
+fails announced-long a = says-above (largest (row-asked a)) (a .said)
+fails announced-short a = says-below (smallest (row-asked a)) (a .said)
+fails sent-long a = ltb (most (largest (row-asked a)) (a .said)) (length (sent a))
+fails sent-short a = ltb (length (sent a)) (least (smallest (row-asked a)) (largest (row-asked a)) (a .said))
 fails under-lock a = locked (row-asked a) (a .values)
 fails no-number a = judged-as NotANumber a
 fails too-high a = judged-as Above a
@@ -178,5 +163,5 @@ unless-refused none refuse done = done
 unless-refused (some t) refuse done = refuse (code-of t)
 
 -- the code that is told, 0 where nothing refuses
-abbrev pub told : Option Test → ℕ
-told o = unless-refused o (λ code. code) 0
+abbrev pub code-told : Option Test → ℕ
+code-told o = unless-refused o (λ code. code) 0

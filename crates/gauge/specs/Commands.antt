@@ -3,8 +3,7 @@ use mathlib.Core.Bool.{Bool, cond}
 use mathlib.Core.List.{List}
 use Prim.Native.Nat.{ℕ}
 use Rattle.order.specs.Talk.{Outcome, stored, restarted}
-use Rattle.block.specs.Saved.{storable, loadable, loaded}
-use Rattle.block.specs.Saved as saved
+use Rattle.block.specs.Saved.{storable, stored-block, loadable, loaded}
 use Rattle.command.specs.Words.{word-of, with-status, same-bytes}
 use Rattle.command.specs.Exceptions.{exceptions-cleared}
 use Rattle.command.specs.declared.word.Command.{Command}
@@ -21,7 +20,7 @@ unfoldable pub done : Command → Memory → Outcome Memory
 done DeviceReset m = restarted (powered-up m)
 done ExceptionReset m = stored (with-values m (with-status ExceptionReset 0 (exceptions-cleared (m .values))))
 done StoreParameters m =
-    stored (memory-of (with-status StoreParameters (status-by (storable (m .values))) (m .values)) (saved.stored (m .values) (m .block)))
+    stored (memory-of (with-status StoreParameters (status-by (storable (m .values))) (m .values)) (stored-block (m .values) (m .block)))
 done LoadParameters m =
     stored (with-values m (with-status LoadParameters (status-by (loadable (m .block))) (loaded (m .block) (m .values))))
 

@@ -4,16 +4,15 @@ use mathlib.Core.List.{List, _++_}
 use Prim.Native.Nat.{ℕ}
 use lib.Dec.{eqb}
 use Rattle.order.specs.Talk.{unsaid, Read, value, denied, Sizes, sizes, closed, Outcome, stored, restarted, declined}
-use Rattle.table.specs.Row.{Row, CARD, COMMAND}
+use Rattle.table.specs.Row.{Row, smallest, largest, CARD, COMMAND}
 use Rattle.table.specs.Find.{find-row}
-use Rattle.entry.specs.Entry.{entry-of}
-use Rattle.entry.specs.Entry as entry
+use Rattle.entry.specs.Entry.{entry-of, with-entry}
 use Rattle.card.specs.Card.{card-of, with-card}
 use Rattle.trip.specs.Trip.{all-off}
 use Rattle.command.specs.Words.{command-at, read-word}
 use Rattle.gauge.specs.Memory.{Memory, Store, with-values}
 use Rattle.gauge.specs.Commands.{obeyed}
-use Rattle.gauge.specs.Checks.{Asked, asked, asked-key, asked-last, number-asked, row-asked, smallest, largest, sent, Test, read-order, key-order, last-order, write-order, refused-by, unless-refused}
+use Rattle.gauge.specs.Checks.{Asked, asked, asked-key, asked-last, row-asked, sent, Test, read-order, key-order, last-order, write-order, refused-by, unless-refused}
 
 -- by type: the card is a view, a command word has its printed value, all else is stored
 unfoldable pub by-type : {A : Type 0} → Row → A → A → A → A
@@ -35,7 +34,7 @@ read-whole g index sub = read-checked g (asked-key (find-row index sub))
 
 -- the lengths that a write may have, by its key
 unfoldable pub sizes-checked : Asked → Sizes
-sizes-checked a = unless-refused (refused-by a key-order) closed (sizes (smallest (number-asked a)) (largest (number-asked a)))
+sizes-checked a = unless-refused (refused-by a key-order) closed (sizes (smallest (row-asked a)) (largest (row-asked a)))
 
 unfoldable pub write-sizes : ℕ → ℕ → Sizes
 write-sizes index sub = sizes-checked (asked-key (find-row index sub))
@@ -45,7 +44,7 @@ unfoldable pub effect : Row → List ℕ → Memory → Outcome Memory
 effect r bytes m =
     by-type r (stored (with-values m (with-card (m .values) bytes)))
     (obeyed (command-at (r .index)) bytes m)
-    (stored (with-values m (entry.stored r (m .values) bytes)))
+    (stored (with-values m (with-entry r (m .values) bytes)))
 
 -- a write that is refused by the first of some tests, or done
 unfoldable pub write-by : List Test → Asked → Memory → Outcome Memory

@@ -9,11 +9,12 @@ use table::kind;
 ghost use mathlib.Core.Path.{_≡_};
 ghost use Prim.Native.Nat.{_<_};
 ghost use lib.ListN.{length};
+ghost use Rattle.table.specs.Row.{Allowed};
 ghost use Rattle.table.specs.Rows.{row-count, at-row};
 ghost use Rattle.gauge.specs.Memory.{memory-of};
 ghost use Rattle.gauge.specs.Commands.{status-by, done, obeyed};
 ghost use Rattle.gauge.specs.Endings.{left, left-by};
-ghost use Rattle.gauge.specs.Checks.{asked-last, last-order, refused-by, told};
+ghost use Rattle.gauge.specs.Checks.{asked-last, last-order, refused-by, code-told};
 ghost use Rattle.gauge.specs.Whole.{effect, commit-row};
 
 // How a write ends; after a restart the lines' transfers are dropped and the trips are off.
@@ -45,12 +46,12 @@ fn carry_out(values: &mut [u8], block: &mut [u8], command: Command) -> Ending
             Ending::Accepted
         }
         Command::StoreParameters => {
-            let code = status_by(block::store(values, block));
+            let code = status_by(store::store(values, block));
             word::set_status(values, Command::StoreParameters, code);
             Ending::Accepted
         }
         Command::LoadParameters => {
-            let code = status_by(block::load(block, values));
+            let code = status_by(load::load(block, values));
             word::set_status(values, Command::LoadParameters, code);
             Ending::Accepted
         }
@@ -71,21 +72,21 @@ fn obey(values: &mut [u8], block: &mut [u8], command: Command, bytes: &[u8]) -> 
 
 // The code of the first of the last checks that refuses, 0 where none does.
 fn refusal(values: &[u8], row: usize, kind: u8, bytes: &[u8]) -> u32
-    requires { ⌜ (length (now values) ≡ 1024) × (row < row-count) × (kind ≡ at-row row .kind) × (length (now bytes) ≡ at-row row .len) ⌝ }
-    ensures { λ r. ⌜ r ≡ told (refused-by (asked-last row (now (bytes .entry)) (now (values .entry))) last-order) ⌝ }
+    requires { ⌜ (length (now values) ≡ 1024) × (row < row-count) × (kind ≡ at-row row .kind) × Allowed (at-row row) (length (now bytes)) ⌝ }
+    ensures { λ r. ⌜ r ≡ code-told (refused-by (asked-last row (now (bytes .entry)) (now (values .entry))) last-order) ⌝ }
 {
     if lock::refuses(values, row, kind) {
         return code::LOCK_SHUT;
     }
     if kind == kind::CARD {
-        return entry::limits::code_of(enter::judge(bytes));
+        return limits::code_of(enter::judge(bytes));
     }
-    entry::limits::code_of(entry::judge(row, kind, bytes))
+    limits::code_of(limits::judge(row, kind, bytes))
 }
 
 // What an accepted write does.
 fn put(values: &mut [u8], block: &mut [u8], row: usize, kind: u8, bytes: &[u8]) -> Ending
-    requires { ⌜ (length (now values) ≡ 1024) × (length (now block) ≡ 512) × (row < row-count) × (kind ≡ at-row row .kind) × (length (now bytes) ≡ at-row row .len) ⌝ }
+    requires { ⌜ (length (now values) ≡ 1024) × (length (now block) ≡ 512) × (row < row-count) × (kind ≡ at-row row .kind) × Allowed (at-row row) (length (now bytes)) ⌝ }
     ensures { λ r. ⌜ left r (now (values .exit)) (now (block .exit)) ≡ left-by (memory-of (now (values .entry)) (now (block .entry))) (effect (at-row row) (now (bytes .entry)) (memory-of (now (values .entry)) (now (block .entry)))) ⌝ }
 {
     if kind == kind::CARD {
@@ -101,7 +102,7 @@ fn put(values: &mut [u8], block: &mut [u8], row: usize, kind: u8, bytes: &[u8]) 
 
 // The last checks, then the write, of a row that has this type.
 pub fn commit(values: &mut [u8], block: &mut [u8], row: usize, kind: u8, bytes: &[u8]) -> Ending
-    requires { ⌜ (length (now values) ≡ 1024) × (length (now block) ≡ 512) × (row < row-count) × (kind ≡ at-row row .kind) × (length (now bytes) ≡ at-row row .len) ⌝ }
+    requires { ⌜ (length (now values) ≡ 1024) × (length (now block) ≡ 512) × (row < row-count) × (kind ≡ at-row row .kind) × Allowed (at-row row) (length (now bytes)) ⌝ }
     ensures { λ r. ⌜ left r (now (values .exit)) (now (block .exit)) ≡ left-by (memory-of (now (values .entry)) (now (block .entry))) (commit-row row (now (bytes .entry)) (memory-of (now (values .entry)) (now (block .entry)))) ⌝ }
 {
     let code = refusal(values, row, kind, bytes);

@@ -9,5 +9,5 @@ pub fn fill(values: &mut [u8], block: &[u8])
     ensures { λ _. ⌜ now (values .exit) ≡ fresh-values (now (block .entry)) ⌝ }
 {
     entry::put_defaults(values);
-    block::load(block, values);
+    load::load(block, values);
 }

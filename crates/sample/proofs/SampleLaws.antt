@@ -18,13 +18,13 @@ use Rattle.wire.proofs.Writes.{Write, write, written, within, tidy, shown, numb
 use Rattle.trip.specs.declared.Trips.{Trips}
 use Rattle.trip.specs.Trip.{off, usable-pressure, point-after, output, all-off}
 use Rattle.table.specs.Places.{input-value, trip-input-1, trip-input-2, reading-valid, status-1, status-2, trip-outputs, settings-1, settings-2, high-enable, low-enable, high-level, low-level, high-hysteresis, low-hysteresis, sensor-error, active-word, latched-word, summary-byte, power-on-time}
-use Rattle.sample.specs.Faults.{kept, with-faults, summary-of, with-summary}
-use Rattle.sample.specs.Sample.{settings, trips-next, trips-after, with-pressure, with-none, with-reading, trip-word, with-trips, values-after}
+use Rattle.sample.specs.Faults.{kept-faults, with-faults, summary-of, with-summary}
+use Rattle.sample.specs.Sample.{settings, trips-next, trips-after, with-pressure, with-none, with-reading, trip-word, with-trip-entries, values-after}
 
 -- ---- the kept faults
 
-pub kept-is : (f : ℕ) → kept f ≡ f % 4 + f / 512 % 4 * 512
-unfolding kept
+pub kept-is : (f : ℕ) → kept-faults f ≡ f % 4 + f / 512 % 4 * 512
+unfolding kept-faults
 kept-is f =
     let e : f ≡ f / 512 * 512 + f % 512 = omega arith in
     let m : f % 512 % 4 ≡ f % 4 = omega arith in
@@ -34,10 +34,10 @@ kept-is f =
     ∙ omega arith
 
 -- eleven bits, so a UINT holds them
-kept-lt : (f : ℕ) → kept f < 2 ^ 16
+kept-lt : (f : ℕ) → kept-faults f < 2 ^ 16
 kept-lt f = rw kept-is (omega arith)
 
-kept-word : (f : ℕ) → kept f < 2 ^ 32
+kept-word : (f : ℕ) → kept-faults f < 2 ^ 32
 kept-word f = omega (arith, kept-lt f)
 
 -- ---- what fits
@@ -78,13 +78,13 @@ word-outputs t =
 module _ (l : List ℕ) (was : Trips) (p : Float) (valid : ℕ) where
   -- what is promised of trips and values
   abbrev Taken : Trips → List ℕ → Type 0
-  Taken t x = (t ≡ trips-after l was p valid) × (x ≡ with-trips (trips-after l was p valid) (with-reading p valid l))
+  Taken t x = (t ≡ trips-after l was p valid) × (x ≡ with-trip-entries (trips-after l was p valid) (with-reading p valid l))
 
-  pub taken-usable : {t : Trips} {x : List ℕ} → usable-pressure p valid ≡ true → (t ≡ trips-next l was p) × (x ≡ with-trips (trips-next l was p) (with-pressure p l)) → Taken t x
+  pub taken-usable : {t : Trips} {x : List ℕ} → usable-pressure p valid ≡ true → (t ≡ trips-next l was p) × (x ≡ with-trip-entries (trips-next l was p) (with-pressure p l)) → Taken t x
   unfolding trips-next trips-after point-after with-reading
   taken-usable e q = (simp e (q .0), simp e (q .1))
 
-  pub taken-unusable : {t : Trips} {x : List ℕ} → usable-pressure p valid ≡ false → (t ≡ all-off) × (x ≡ with-trips all-off (with-none l)) → Taken t x
+  pub taken-unusable : {t : Trips} {x : List ℕ} → usable-pressure p valid ≡ false → (t ≡ all-off) × (x ≡ with-trip-entries all-off (with-none l)) → Taken t x
   unfolding trips-after point-after off with-reading
   taken-unusable e q = (simp e (q .0), simp e (q .1))
 
@@ -136,15 +136,15 @@ module _ (l : List ℕ) (was : Trips) (p : Float) (valid : ℕ) where
 module _ (l : List ℕ) (was : Trips) (p : Float) (valid faults seconds : ℕ) (h : length l ≡ 1024) where
   -- the values after reading and trips, and those after the faults too
   abbrev m : List ℕ
-  m = with-trips (trips-after l was p valid) (with-reading p valid l)
+  m = with-trip-entries (trips-after l was p valid) (with-reading p valid l)
 
   m-by : By l was p valid m []
-  unfolding with-trips with-reading
+  unfolding with-trip-entries with-reading
   m-by true e = rw e
   m-by false e = rw e
 
   abbrev f-writes : List Write → List Write
-  f-writes = faulted (kept faults) (bitOr (kept faults) (number l latched-word 4))
+  f-writes = faulted (kept-faults faults) (bitOr (kept-faults faults) (number l latched-word 4))
 
   latched-before : number m latched-word 4 ≡ number l latched-word 4
   latched-before = each l was p valid h m [] m-by latched-word 4 _ refl refl refl
@@ -154,17 +154,17 @@ module _ (l : List ℕ) (was : Trips) (p : Float) (valid faults seconds : ℕ) (
   f-by true e = rw (latched-before, m-by true e)
   f-by false e = rw (latched-before, m-by false e)
 
-  active-before : number (with-faults faults m) active-word 4 ≡ kept faults
+  active-before : number (with-faults faults m) active-word 4 ≡ kept-faults faults
   active-before =
-      let e = from-little 4 (kept faults) (kept-word faults) in
-      each l was p valid h (with-faults faults m) (f-writes []) f-by active-word 4 (kept faults) refl e e
+      let e = from-little 4 (kept-faults faults) (kept-word faults) in
+      each l was p valid h (with-faults faults m) (f-writes []) f-by active-word 4 (kept-faults faults) refl e e
 
-  summary-before : summary-of (number (with-faults faults m) active-word 4) ≡ cond (eqb (kept faults) 0) 0 4
+  summary-before : summary-of (number (with-faults faults m) active-word 4) ≡ cond (eqb (kept-faults faults) 0) 0 4
   unfolding summary-of
   summary-before = rw active-before
 
   abbrev all-writes : List Write
-  all-writes = f-writes (write summary-byte 1 (cond (eqb (kept faults) 0) 0 4) ∷ write power-on-time 4 seconds ∷ [])
+  all-writes = f-writes (write summary-byte 1 (cond (eqb (kept-faults faults) 0) 0 4) ∷ write power-on-time 4 seconds ∷ [])
 
   all-by : By l was p valid (values-after l was p valid faults seconds) all-writes
   unfolding values-after with-summary
@@ -176,19 +176,19 @@ module _ (l : List ℕ) (was : Trips) (p : Float) (valid faults seconds : ℕ) (
 
   -- ---- faults, summary and time
 
-  pub error-shown : number (values-after l was p valid faults seconds) sensor-error 2 ≡ kept faults
-  error-shown = let e = from-little 2 (kept faults) (kept-lt faults) in number-after sensor-error 2 _ refl e e
+  pub error-shown : number (values-after l was p valid faults seconds) sensor-error 2 ≡ kept-faults faults
+  error-shown = let e = from-little 2 (kept-faults faults) (kept-lt faults) in number-after sensor-error 2 _ refl e e
 
-  pub active-shown : number (values-after l was p valid faults seconds) active-word 4 ≡ kept faults
-  active-shown = let e = from-little 4 (kept faults) (kept-word faults) in number-after active-word 4 _ refl e e
+  pub active-shown : number (values-after l was p valid faults seconds) active-word 4 ≡ kept-faults faults
+  active-shown = let e = from-little 4 (kept-faults faults) (kept-word faults) in number-after active-word 4 _ refl e e
 
-  pub latched-shown : Bytes l → number (values-after l was p valid faults seconds) latched-word 4 ≡ bitOr (kept faults) (number l latched-word 4)
+  pub latched-shown : Bytes l → number (values-after l was p valid faults seconds) latched-word 4 ≡ bitOr (kept-faults faults) (number l latched-word 4)
   latched-shown bytes =
-      let e = from-little 4 (bitOr (kept faults) (number l latched-word 4)) (or-lt 32 (kept faults) (number l latched-word 4) (kept-word faults) (number-lt l latched-word 4 bytes)) in
+      let e = from-little 4 (bitOr (kept-faults faults) (number l latched-word 4)) (or-lt 32 (kept-faults faults) (number l latched-word 4) (kept-word faults) (number-lt l latched-word 4 bytes)) in
       number-after latched-word 4 _ refl e e
 
-  pub summary-shown : number (values-after l was p valid faults seconds) summary-byte 1 ≡ cond (eqb (kept faults) 0) 0 4
-  summary-shown = let e = from-little 1 (cond (eqb (kept faults) 0) 0 4) (four-fits (eqb (kept faults) 0)) in number-after summary-byte 1 _ refl e e
+  pub summary-shown : number (values-after l was p valid faults seconds) summary-byte 1 ≡ cond (eqb (kept-faults faults) 0) 0 4
+  summary-shown = let e = from-little 1 (cond (eqb (kept-faults faults) 0) 0 4) (four-fits (eqb (kept-faults faults) 0)) in number-after summary-byte 1 _ refl e e
 
   pub time-shown : seconds < 2 ^ 32 → number (values-after l was p valid faults seconds) power-on-time 4 ≡ seconds
   time-shown k = let e = from-little 4 seconds k in number-after power-on-time 4 _ refl e e

@@ -9,10 +9,10 @@ use Rattle.wire.specs.Little.{little, fromLittle, number, put-number}
 use Rattle.wire.specs.Real.{real}
 use Rattle.wire.specs.Flags.{is-set}
 use Rattle.trip.specs.declared.Trips.{Trips}
-use Rattle.trip.specs.Trip.{settled, low-next, high-next, point-next, finite, usable-pressure, off, point-after, all-off}
+use Rattle.trip.specs.Trip.{side-settled, low-next, high-next, point-next, finite, usable-pressure, off, point-after, all-off}
 use Rattle.table.specs.Places.{input-value, reading-valid, trip-outputs, settings-1, low-enable, low-level, low-hysteresis, underrange, active-word, latched-word, summary-byte, power-on-time}
-use Rattle.sample.specs.Faults.{kept, with-faults, summary-of, with-summary}
-use Rattle.sample.specs.Sample.{settings, trips-after, with-reading, trip-word, with-trips, values-after}
+use Rattle.sample.specs.Faults.{kept-faults, with-faults, summary-of, with-summary}
+use Rattle.sample.specs.Sample.{settings, trips-after, with-reading, trip-word, with-trip-entries, values-after}
 use Rattle.sample.specs.Image.{in-order, mapping, image-of}
 
 -- a sample, its pressure by the bit pattern
@@ -70,12 +70,12 @@ pub example-K-whole :
     (2 ∷ 1 ∷ 0x3e800000 ∷ 0 ∷ 0x603 ∷ 0 ∷ 7 ∷ []) ∷
     (0 ∷ 0 ∷ 0x3e800000 ∷ 1 ∷ 0x603 ∷ 4 ∷ 2 ∷ []) ∷
     []
-unfolding splice little fromLittle number real settled low-next high-next point-next finite usable-pressure off point-after kept with-faults summary-of with-summary is-set settings trips-after with-reading trip-word with-trips values-after ofBits toBits lt add sub
+unfolding splice little fromLittle number real side-settled low-next high-next point-next finite usable-pressure off point-after kept-faults with-faults summary-of with-summary is-set settings trips-after with-reading trip-word with-trip-entries values-after ofBits toBits lt add sub
 example-K-whole = refl
 
 -- the image after a sample at 0.25 with over temperature, underrange lent as 7: flags, input value, summary, outputs
 pub image-K :
     image-of (values-after (put-number half-low underrange 1 7) all-off (ofBits binary32 0x3e800000) 1 0x400 9)
     ≡ 0x05 ∷ 0x00 ∷ 0x00 ∷ 0x80 ∷ 0x3E ∷ 0x04 ∷ 0x02 ∷ 0x00 ∷ 0x00 ∷ 0x00 ∷ []
-unfolding splice little fromLittle number real settled low-next high-next point-next finite usable-pressure off point-after kept with-faults summary-of with-summary is-set settings trips-after with-reading trip-word with-trips values-after ofBits toBits lt add sub in-order mapping image-of
+unfolding splice little fromLittle number real side-settled low-next high-next point-next finite usable-pressure off point-after kept-faults with-faults summary-of with-summary is-set settings trips-after with-reading trip-word with-trip-entries values-after ofBits toBits lt add sub in-order mapping image-of
 image-K = refl

@@ -8,13 +8,13 @@ use Rattle.wire.specs.Little.{number, put-number}
 use Rattle.table.specs.Places.{sensor-error, active-word, latched-word, summary-byte}
 
 -- R11.1
-unfoldable pub kept : ℕ → ℕ
-kept faults = bitAnd faults 0x603
+unfoldable pub kept-faults : ℕ → ℕ
+kept-faults faults = bitAnd faults 0x603
 
 -- active and latched word (R11.2)
 unfoldable pub with-faults : ℕ → List ℕ → List ℕ
 with-faults faults l =
-    put-number (put-number (put-number l sensor-error 2 (kept faults)) active-word 4 (kept faults)) latched-word 4 (bitOr (kept faults) (number l latched-word 4))
+    put-number (put-number (put-number l sensor-error 2 (kept-faults faults)) active-word 4 (kept-faults faults)) latched-word 4 (bitOr (kept-faults faults) (number l latched-word 4))
 
 -- bit 2, Device Error, while the active word is not zero (R11.3)
 unfoldable pub summary-of : ℕ → ℕ

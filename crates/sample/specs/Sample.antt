@@ -62,8 +62,8 @@ unfoldable pub trip-word : Trips → ℕ
 trip-word t = bit (t .one .high) + bit (t .one .low) * 2 + bit (t .two .high) * 4 + bit (t .two .low) * 8
 
 -- the status entries show each side (R10.9)
-unfoldable pub with-trips : Trips → List ℕ → List ℕ
-with-trips t l =
+unfoldable pub with-trip-entries : Trips → List ℕ → List ℕ
+with-trip-entries t l =
     put-number
     (put-number (put-number (put-number (put-number l status-1 1 (bit (t .one .high))) (status-1 + 1) 1 (bit (t .one .low))) status-2 1 (bit (t .two .high))) (status-2 + 1) 1 (bit (t .two .low)))
     trip-outputs
@@ -73,4 +73,4 @@ with-trips t l =
 -- the values after a sample; seconds are copied (R10.1)
 unfoldable pub values-after : List ℕ → Trips → Float → ℕ → ℕ → ℕ → List ℕ
 values-after l was p valid faults seconds =
-    put-number (with-summary (with-faults faults (with-trips (trips-after l was p valid) (with-reading p valid l)))) power-on-time 4 seconds
+    put-number (with-summary (with-faults faults (with-trip-entries (trips-after l was p valid) (with-reading p valid l)))) power-on-time 4 seconds

@@ -15,8 +15,8 @@ ghost use lib.Ieee.{isNan};
 ghost use Rattle.wire.specs.Little.{put-number};
 ghost use Rattle.trip.specs.Trip.{all-off};
 ghost use Rattle.table.specs.Places.{summary-byte};
-ghost use Rattle.sample.specs.Faults.{kept, with-faults, summary-of};
-ghost use Rattle.sample.specs.Sample.{settings, trips-next, trips-after, with-pressure, with-none, with-reading, trip-word, with-trips, values-after};
+ghost use Rattle.sample.specs.Faults.{kept-faults, with-faults, summary-of};
+ghost use Rattle.sample.specs.Sample.{settings, trips-next, trips-after, with-pressure, with-none, with-reading, trip-word, with-trip-entries, values-after};
 
 fn settings_at(values: &[u8], at: usize) -> Point
     requires { ⌜ at + 34 ≤ length (now values) ⌝ }
@@ -69,7 +69,7 @@ fn word_of(t: Trips) -> u8
 // The status entries of both points stand in a row, a byte for each side.
 fn put_trips(values: &mut [u8], t: Trips)
     requires { ⌜ length (now values) ≡ 1024 ⌝ }
-    ensures { λ _. ⌜ now (values .exit) ≡ with-trips t (now (values .entry)) ⌝ }
+    ensures { λ _. ⌜ now (values .exit) ≡ with-trip-entries t (now (values .entry)) ⌝ }
 {
     let one = t.one;
     let two = t.two;
@@ -89,7 +89,7 @@ fn put_trips(values: &mut [u8], t: Trips)
 fn take_usable(values: &mut [u8], was: Trips, p: f32) -> Trips
     requires { ⌜ (length (now values) ≡ 1024) × (isNan p ≡ false) ⌝ }
     ensures trips { λ r. ⌜ r ≡ trips-next (now (values .entry)) was p ⌝ }
-    ensures values { λ _. ⌜ now (values .exit) ≡ with-trips (trips-next (now (values .entry)) was p) (with-pressure p (now (values .entry))) ⌝ }
+    ensures values { λ _. ⌜ now (values .exit) ≡ with-trip-entries (trips-next (now (values .entry)) was p) (with-pressure p (now (values .entry))) ⌝ }
 {
     let next = next_trips(values, was, p);
     put_reading(values, p);
@@ -101,7 +101,7 @@ fn take_usable(values: &mut [u8], was: Trips, p: f32) -> Trips
 fn take_unusable(values: &mut [u8]) -> Trips
     requires { ⌜ length (now values) ≡ 1024 ⌝ }
     ensures trips { λ r. ⌜ r ≡ all-off ⌝ }
-    ensures values { λ _. ⌜ now (values .exit) ≡ with-trips all-off (with-none (now (values .entry))) ⌝ }
+    ensures values { λ _. ⌜ now (values .exit) ≡ with-trip-entries all-off (with-none (now (values .entry))) ⌝ }
 {
     wire::put_byte(values, place::READING_VALID, 0);
     let off = trip::all_off();
@@ -113,7 +113,7 @@ fn take_unusable(values: &mut [u8]) -> Trips
 fn take(values: &mut [u8], was: Trips, p: f32, valid: u8) -> Trips
     requires { ⌜ length (now values) ≡ 1024 ⌝ }
     ensures trips { λ r. ⌜ r ≡ trips-after (now (values .entry)) was p valid ⌝ }
-    ensures values { λ _. ⌜ now (values .exit) ≡ with-trips (trips-after (now (values .entry)) was p valid) (with-reading p valid (now (values .entry))) ⌝ }
+    ensures values { λ _. ⌜ now (values .exit) ≡ with-trip-entries (trips-after (now (values .entry)) was p valid) (with-reading p valid (now (values .entry))) ⌝ }
 {
     if trip::usable(p, valid) {
         return take_usable(values, was, p);
@@ -122,7 +122,7 @@ fn take(values: &mut [u8], was: Trips, p: f32, valid: u8) -> Trips
 }
 
 fn keep(faults: u32) -> u32
-    ensures { λ r. ⌜ r ≡ kept faults ⌝ }
+    ensures { λ r. ⌜ r ≡ kept-faults faults ⌝ }
 {
     faults & 0x603
 }

@@ -12,7 +12,8 @@ use borrow.Author.Tests.{leb-true}
 use Rattle.wire.specs.Little.{little}
 use Rattle.order.specs.Talk.{opened, part-given}
 use Rattle.sdo.specs.declared.Key.{Key}
-use Rattle.sdo.specs.Eight.{choice, one, answer-of, short}
+use Rattle.wire.specs.Flags.{bit}
+use Rattle.sdo.specs.Eight.{choice, answer-of, short}
 
 -- a test whose result is known settles the definition's test
 pub said : {r s b : Bool} → r ≡ s → r ≡ b → s ≡ b
@@ -49,7 +50,7 @@ pad7 (a ∷ b ∷ c ∷ d ∷ e ∷ f ∷ g ∷ l) = refl
 
 -- eight bytes, taken one by one from a value, are the part that the definition lays out
 pub part-laid : (l : List ℕ) (p : ℕ) (t last : Bool) (h b0 b1 b2 b3 b4 b5 b6 : ℕ)
-    → h ≡ 16 * one t + 2 * (7 - min 7 (length l - p)) + one last
+    → h ≡ 16 * bit t + 2 * (7 - min 7 (length l - p)) + bit last
     → b0 ≡ getD l p 0
     → b1 ≡ getD l (p + 1) 0
     → b2 ≡ getD l (p + 2) 0
@@ -62,7 +63,7 @@ unfolding answer-of
 part-laid l p t last h b0 b1 b2 b3 b4 b5 b6 eh e0 e1 e2 e3 e4 e5 e6 =
     let n : length (take 7 (drop p l)) ≡ min 7 (length l - p) = simp (length-take, length-drop) in
     let z : getD (drop p l) 0 0 ≡ getD l p 0 = getD-drop p l 0 0 ∙ ap (λ (i : ℕ). getD l i 0) (add-zero p) in
-    ap₂ _∷_ (eh ∙ ap (λ (m : ℕ). 16 * one t + 2 * (7 - m) + one last) (sym n))
+    ap₂ _∷_ (eh ∙ ap (λ (m : ℕ). 16 * bit t + 2 * (7 - m) + bit last) (sym n))
     (sym (pad7 (drop p l) ∙ cc (z, e0, e1, getD-drop p l 1 0, e2, getD-drop p l 2 0, e3, getD-drop p l 3 0, e4, getD-drop p l 4 0, e5, getD-drop p l 5 0, e6, getD-drop p l 6 0)))
 
 -- a value that is read at once has one to four bytes

@@ -13,7 +13,8 @@ use Rattle.wire.proofs.LittleLaws.{byte-split, from-little}
 use Rattle.order.specs.Talk.{Answer, opened, part-given, write-opened, part-taken, refused, dropped, no-transfer, silent}
 use Rattle.order.specs.Promise.{is-abort}
 use Rattle.sdo.specs.declared.Key.{Key}
-use Rattle.sdo.specs.Eight.{has, one, transfer-code, answer-of, tell-of, Carried}
+use Rattle.wire.specs.Flags.{bit}
+use Rattle.sdo.specs.Eight.{has, transfer-code, answer-of, tell-of, Carried}
 
 -- a number of four bytes is read back from behind the key
 number-back : (a b c d n : ℕ) → n < 0x1_0000_0000 → number (a ∷ b ∷ c ∷ d ∷ little 4 n) 4 4 ≡ n
@@ -35,23 +36,23 @@ round-by : (t last : Bool) (b : ℕ) (bytes : List ℕ) (rest : List ℕ) → b 
 unfolding tell-of
 round-by t last b bytes rest e₀ e₁ e₂ e₃ e₄ = rw (e₀, e₁, e₂, e₄) (ap (part-given t bytes) e₃)
 
-one-le : (t : Bool) → one t ≤ 1
-one-le true = omega arith
-one-le false = omega arith
+bit-le : (t : Bool) → bit t ≤ 1
+bit-le true = omega arith
+bit-le false = omega arith
 
-eqb-one : (t : Bool) → eqb (one t) 1 ≡ t
-eqb-one true = refl
-eqb-one false = refl
+bit-set : (t : Bool) → eqb (bit t) 1 ≡ t
+bit-set true = refl
+bit-set false = refl
 
-has-is : (w b : ℕ) (t : Bool) → b / w % 2 ≡ one t → has w b ≡ t
-has-is w b t e = ap (λ (n : ℕ). eqb n 1) e ∙ eqb-one t
+has-is : (w b : ℕ) (t : Bool) → b / w % 2 ≡ bit t → has w b ≡ t
+has-is w b t e = ap (λ (n : ℕ). eqb n 1) e ∙ bit-set t
 
 round-part : (t last : Bool) (bytes : List ℕ) → length bytes ≤ 7 → tell-of (answer-of (part-given t bytes last)) ≡ part-given t bytes last
 unfolding answer-of
 round-part t last bytes h =
-    let b : ℕ = 16 * one t + 2 * (7 - length bytes) + one last in
-    let h₁ : one t ≤ 1 = one-le t in
-    let h₂ : one last ≤ 1 = one-le last in
+    let b : ℕ = 16 * bit t + 2 * (7 - length bytes) + bit last in
+    let h₁ : bit t ≤ 1 = bit-le t in
+    let h₂ : bit last ≤ 1 = bit-le last in
     round-by t last b bytes (bytes ++ replicate (7 - length bytes) 0) (omega arith) (has-is 16 b t (omega arith)) (omega arith) (has-is 1 b last (omega arith))
     (take-at bytes (replicate (7 - length bytes) 0) (7 - (7 - length bytes)) (omega arith))
 

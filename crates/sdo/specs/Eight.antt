@@ -10,6 +10,7 @@ use mathlib.Core.Option.{none, some}
 use lib.Dec.{T, eqb, leb}
 use lib.ListN.{length, take, drop, getD, replicate}
 use Rattle.wire.specs.Little.{little, number}
+use Rattle.wire.specs.Flags.{bit}
 use Rattle.order.specs.Talk.{announced, own, Request, open-read, next-part, expedited, open-write, send-part, give-up, unknown, Answer, opened, part-given, write-opened, part-taken, refused, dropped, no-transfer, silent}
 use Rattle.order.specs.Serve.{Form, Speech, toggle-code}
 use Rattle.sdo.specs.declared.Key.{Key}
@@ -30,10 +31,6 @@ key-bytes k = k .index % 256 ∷ k .index / 256 ∷ k .sub ∷ []
 -- a bit of a byte, by its weight
 abbrev pub has : ℕ → ℕ → Bool
 has weight b = eqb (b / weight % 2) 1
-
-abbrev pub one : Bool → ℕ
-one true = 1
-one false = 0
 
 -- by the specifier (R5.1): 0 to 4, and 5 to 7 as a range
 unfoldable pub choice : {A : Type 0} → ℕ → A → A → A → A → A → A → A
@@ -95,9 +92,9 @@ unfoldable pub answer-of : Answer Key → List ℕ
 unfolding little
 answer-of (opened k n bytes true) = (0x43 + 4 * (4 - length bytes)) ∷ key-bytes k ++ bytes ++ replicate (4 - length bytes) 0
 answer-of (opened k n bytes false) = 0x41 ∷ key-bytes k ++ little 4 n
-answer-of (part-given t bytes last) = (16 * one t + 2 * (7 - length bytes) + one last) ∷ bytes ++ replicate (7 - length bytes) 0
+answer-of (part-given t bytes last) = (16 * bit t + 2 * (7 - length bytes) + bit last) ∷ bytes ++ replicate (7 - length bytes) 0
 answer-of (write-opened k) = 0x60 ∷ key-bytes k ++ replicate 4 0
-answer-of (part-taken t) = (0x20 + 16 * one t) ∷ replicate 7 0
+answer-of (part-taken t) = (0x20 + 16 * bit t) ∷ replicate 7 0
 answer-of (refused k c) = 0x80 ∷ key-bytes k ++ little 4 c
 answer-of (dropped k c) = 0x80 ∷ key-bytes k ++ little 4 c
 answer-of no-transfer = 0x80 ∷ replicate 3 0 ++ little 4 transfer-code

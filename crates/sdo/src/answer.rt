@@ -6,7 +6,8 @@ ghost use mathlib.Core.Path.{_≡_};
 ghost use Prim.Native.Nat.{_+_, _-_, _*_, _≤_, _<_};
 ghost use lib.ListN.{length, take, drop, getD};
 ghost use Rattle.order.specs.Talk.{opened, part-given, write-opened, part-taken, refused, no-transfer};
-ghost use Rattle.sdo.specs.Eight.{one, answer-of, short};
+ghost use Rattle.wire.specs.Flags.{bit};
+ghost use Rattle.sdo.specs.Eight.{answer-of, short};
 
 // The code of a wrong toggle.
 pub const WRONG_TOGGLE: u32 = 0x05030000;
@@ -132,7 +133,7 @@ pub fn part_more(held: &[u8], place: usize, toggle: bool) -> [u8; 8]
 // Byte 0 of the last part of a read: toggle, unused bytes of seven, last mark.
 fn last_head(toggle: bool, len: usize, place: usize) -> u8
     requires { ⌜ (len ≤ 64) × (place ≤ len) × (len ≤ place + 7) ⌝ }
-    ensures { λ r. ⌜ r ≡ 16 * one toggle + 2 * (7 - (len - place)) + 1 ⌝ }
+    ensures { λ r. ⌜ r ≡ 16 * bit toggle + 2 * (7 - (len - place)) + 1 ⌝ }
 {
     let unused = (place + 7) - len;
     if toggle {

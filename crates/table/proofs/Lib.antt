@@ -1,6 +1,7 @@
 pub mod Walks
 pub mod Rules
 pub mod Widths
+pub mod Lengths
 pub mod Searched
 pub mod Table
 pub mod Areas

@@ -10,7 +10,7 @@ use lib.ListN.{length, getD}
 use borrow.Author.Tests.{eq-eqb, le-leb}
 use Rattle.table.specs.Row.{Row, no-row, BOOL, ULINT, REAL, STRING}
 use Rattle.table.specs.Walk.{every, chain}
-use Rattle.table.specs.Rule.{pick, key, held, block-sum, is-number, rank, finite, width-of, row-tests, row-ok, next-ok, table-ok}
+use Rattle.table.specs.Rule.{pick, key, held, block-sum, is-number, rank, finite-pattern, width-of, row-tests, row-ok, next-ok, table-ok}
 use Rattle.table.proofs.Walks.{nth, both-left, both-right, every-at, chain-far, lt-or-ge}
 
 -- the rule of one row
@@ -51,7 +51,7 @@ unfolding pick
 not-both b t e = rw e at t
 
 pub row-ok→rule : (r : Row) → T (row-ok r) → RowRule r
-unfolding row-ok row-tests is-number finite
+unfolding row-ok row-tests is-number finite-pattern
 row-ok→rule r t =
     let test : (k : ℕ) → T (getD (row-tests r) k true) = λ k. nth (row-tests r) k t in
     record {
@@ -67,8 +67,8 @@ row-ok→rule r t =
       width = eqb→eq _ _ (test 9);
       nv-kind = λ e. leb→le _ _ (both-left (leb (r .kind) 6) (pick (eqb (r .kind) ULINT) false true) (made (eqb (r .nv) 1) _ (test 10) (eq-eqb _ _ e)));
       nv-narrow = λ e u. not-both (eqb (r .kind) ULINT) (both-right (leb (r .kind) 6) _ (made (eqb (r .nv) 1) _ (test 10) (eq-eqb _ _ e))) (eq-eqb _ _ u);
-      finite-low = λ e. ltb→lt _ _ (both-left (finite (r .low)) (finite (r .high)) (made (eqb (r .kind) REAL) _ (test 11) (eq-eqb _ _ e)));
-      finite-high = λ e. ltb→lt _ _ (both-right (finite (r .low)) (finite (r .high)) (made (eqb (r .kind) REAL) _ (test 11) (eq-eqb _ _ e)));
+      finite-low = λ e. ltb→lt _ _ (both-left (finite-pattern (r .low)) (finite-pattern (r .high)) (made (eqb (r .kind) REAL) _ (test 11) (eq-eqb _ _ e)));
+      finite-high = λ e. ltb→lt _ _ (both-right (finite-pattern (r .low)) (finite-pattern (r .high)) (made (eqb (r .kind) REAL) _ (test 11) (eq-eqb _ _ e)));
       ordered = leb→le _ _ (test 12);
       def-low = leb→le _ _ (test 13);
       def-high = leb→le _ _ (test 14);

@@ -79,11 +79,11 @@ no-index (x ∷ xs) n seen i s e = go (eqb (x .index) i) (eqb (x .sub) s) refl e
     go false b ea q f (suc m) h e = f q m (le-of-suc-le-suc h) e
 
 -- no row has the index: the answer is what was seen before
-pub index-absent : (xs : List Row) (n : ℕ) (seen : Bool) (i s : ℕ) → No-index xs i → find-from xs n seen i s ≡ absence seen
+pub absent-index : (xs : List Row) (n : ℕ) (seen : Bool) (i s : ℕ) → No-index xs i → find-from xs n seen i s ≡ absence seen
 unfolding find-from
-index-absent [] n seen i s f = refl
-index-absent (x ∷ xs) n seen i s f =
-    simp (ne-eqb (x .index) i (f 0 (suc-le-suc zero-le))) (index-absent xs (suc n) seen i s (λ m h. f (suc m) (suc-le-suc h)))
+absent-index [] n seen i s f = refl
+absent-index (x ∷ xs) n seen i s f =
+    simp (ne-eqb (x .index) i (f 0 (suc-le-suc zero-le))) (absent-index xs (suc n) seen i s (λ m h. f (suc m) (suc-le-suc h)))
 
 -- no row has the key, and the index was seen: NoSub
 pub sub-absent-seen : (xs : List Row) (n i s : ℕ) → No-key xs i s → find-from xs n true i s ≡ NoSub
@@ -99,15 +99,15 @@ sub-absent-seen (x ∷ xs) n i s f =
     go false b ea eb q = q
 
 -- no row has the key, and row m has the index: NoSub
-pub sub-absent : (xs : List Row) (n : ℕ) (seen : Bool) (i s : ℕ) → No-key xs i s → (m : ℕ) → m < length xs → getD xs m no-row .index ≡ i → find-from xs n seen i s ≡ NoSub
+pub absent-sub : (xs : List Row) (n : ℕ) (seen : Bool) (i s : ℕ) → No-key xs i s → (m : ℕ) → m < length xs → getD xs m no-row .index ≡ i → find-from xs n seen i s ≡ NoSub
 unfolding find-from
-sub-absent [] n seen i s f m h e = absurd (not-suc-le-zero h)
-sub-absent (x ∷ xs) n seen i s f zero h e =
+absent-sub [] n seen i s f m h e = absurd (not-suc-le-zero h)
+absent-sub (x ∷ xs) n seen i s f zero h e =
     simp (eq-eqb (x .index) i e, ne-eqb (x .sub) s (f 0 h e)) (sub-absent-seen xs (suc n) i s (λ m h. f (suc m) (suc-le-suc h)))
-sub-absent (x ∷ xs) n seen i s f (suc m) h e =
+absent-sub (x ∷ xs) n seen i s f (suc m) h e =
     go (eqb (x .index) i) (eqb (x .sub) s) refl refl
-    (sub-absent xs (suc n) true i s (λ m h. f (suc m) (suc-le-suc h)) m (le-of-suc-le-suc h) e)
-    (sub-absent xs (suc n) seen i s (λ m h. f (suc m) (suc-le-suc h)) m (le-of-suc-le-suc h) e)
+    (absent-sub xs (suc n) true i s (λ m h. f (suc m) (suc-le-suc h)) m (le-of-suc-le-suc h) e)
+    (absent-sub xs (suc n) seen i s (λ m h. f (suc m) (suc-le-suc h)) m (le-of-suc-le-suc h) e)
   where
     go : (a b : Bool) → eqb (x .index) i ≡ a → eqb (x .sub) s ≡ b → find-from xs (suc n) true i s ≡ NoSub → find-from xs (suc n) seen i s ≡ NoSub
         → choose a b (At n) (find-from xs (suc n) true i s) (find-from xs (suc n) seen i s) ≡ NoSub

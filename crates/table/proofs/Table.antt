@@ -10,16 +10,16 @@ use borrow.Author.Tests.{lt-leb}
 use Rattle.table.specs.Row.{CARD}
 use Rattle.table.specs.Rows.{rows, row-count, lock-row, at-row}
 use Rattle.table.specs.Walk.{all, every, linked, chain}
-use Rattle.table.specs.Rule.{pick, key, held, block-bits, block-sum, is-number, real-rank, rank, finite, width-of, row-tests, row-ok, next-ok, table-ok}
+use Rattle.table.specs.Rule.{pick, key, held, block-bits, block-sum, is-number, real-rank, rank, finite-pattern, width-of, row-tests, row-ok, next-ok, table-ok}
 use Rattle.table.specs.Find.{find-from, find-row}
 use Rattle.table.specs.declared.Found.{Found}
 use Rattle.table.specs.declared.Found.the-variants.{At, NoIndex, NoSub}
 use Rattle.table.proofs.Rules.{RowRule, Before, rule-at, before-at, one-row, apart-at}
-use Rattle.table.proofs.Searched.{Has, No-index, No-key, at-has, no-index, index-absent, sub-absent, no-sub}
+use Rattle.table.proofs.Searched.{Has, No-index, No-key, at-has, no-index, absent-index, absent-sub, no-sub}
 
 -- THE RULE, computed once over the whole table
 pub rows-pass : T (table-ok rows)
-unfolding rows all every linked chain pick key held block-bits block-sum is-number real-rank rank finite width-of row-tests row-ok next-ok table-ok
+unfolding rows all every linked chain pick key held block-bits block-sum is-number real-rank rank finite-pattern width-of row-tests row-ok next-ok table-ok
 rows-pass = tt
 
 pub rows-length : length rows ≡ row-count
@@ -70,11 +70,11 @@ find-no-sub i s e = no-sub rows 0 false i s e
 
 pub no-index-find : (i s : ℕ) → No-index rows i → find-row i s ≡ NoIndex
 unfolding find-row
-no-index-find i s f = index-absent rows 0 false i s f
+no-index-find i s f = absent-index rows 0 false i s f
 
 pub no-sub-find : (i s r : ℕ) → No-key rows i s → r < row-count → at-row r .index ≡ i → find-row i s ≡ NoSub
 unfolding find-row
-no-sub-find i s r f h e = sub-absent rows 0 false i s f r (omega (arith, rows-length)) e
+no-sub-find i s r f h e = absent-sub rows 0 false i s f r (omega (arith, rows-length)) e
 
 -- each row is found by its key: at most one row has it
 pub row-found : (i s r : ℕ) → Keyed i s r → find-row i s ≡ At r

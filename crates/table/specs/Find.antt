@@ -5,7 +5,7 @@ use mathlib.Core.List.{List, [], _∷_}
 use Prim.Native.Nat.{ℕ, suc}
 use lib.Dec.{eqb}
 use Rattle.table.specs.Row.{Row}
-use Rattle.table.specs.Rows.{rows}
+use Rattle.table.specs.Rows.{rows, row-count}
 use Rattle.table.specs.declared.Found.{Found}
 use Rattle.table.specs.declared.Found.the-variants.{At, NoIndex, NoSub}
 
@@ -30,3 +30,9 @@ find-from (r ∷ rs) n seen i s =
 
 unfoldable pub find-row : ℕ → ℕ → Found
 find-row i s = find-from rows 0 false i s
+
+-- the number of the row, behind the last where there is none
+unfoldable pub row-number : Found → ℕ
+row-number (At r) = r
+row-number NoIndex = row-count
+row-number NoSub = row-count

@@ -44,8 +44,8 @@ unfolding pick
 rank kind v = pick (eqb kind REAL) (real-rank v) v
 
 -- a REAL's limits are finite (R2.3)
-unfoldable pub finite : ℕ → Bool
-finite b = ltb (b % 2147483648) 2139095040
+unfoldable pub finite-pattern : ℕ → Bool
+finite-pattern b = ltb (b % 2147483648) 2139095040
 
 -- the length that each type has; the strings' and command words' are their own
 unfoldable pub width-of : Row → ℕ
@@ -66,7 +66,7 @@ row-tests r =
     leb (r .nv) 1 ∷
     eqb (r .len) (width-of r) ∷
     pick (eqb (r .nv) 1) (both (leb (r .kind) 6) (pick (eqb (r .kind) ULINT) false true)) true ∷
-    pick (eqb (r .kind) REAL) (both (finite (r .low)) (finite (r .high))) true ∷
+    pick (eqb (r .kind) REAL) (both (finite-pattern (r .low)) (finite-pattern (r .high))) true ∷
     leb (rank (r .kind) (r .low)) (rank (r .kind) (r .high)) ∷
     leb (rank (r .kind) (r .low)) (rank (r .kind) (r .def)) ∷
     leb (rank (r .kind) (r .def)) (rank (r .kind) (r .high)) ∷

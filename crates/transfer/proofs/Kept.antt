@@ -74,7 +74,7 @@ module _ (E : Entries) {Good : E .Store → Type 0} (R : Rows E Good) where
         (valid-cond row (leb (length bytes) (place + F .size)) _ _ tt
         (λ h.
         let q : place + F .size < length bytes = nleb→lt (length bytes) (place + F .size) h in
-        record { there = v .there; key-is = v .key-is; allowed = v .allowed; length-is = v .length-is; place-in = omega arith }))
+        record { there = v .there; key-is = v .key-is; allowed = v .allowed; fitting-length = v .fitting-length; place-in = omega arith }))
         (λ _. tt)
     valid-read-part row (writing k low high sent t) u v = tt
 
@@ -83,7 +83,7 @@ module _ (E : Entries) {Good : E .Store → Type 0} (R : Rows E Good) where
     unfolding take-more
     valid-more row k low high n all t y e f =
         valid-cond row (ltb high (length all)) _ _ tt
-        (λ h. (e, record { there = f .there; key-is = f .key-is; allowed = f .allowed; length-is = f .length-is; place-in = nltb→le high (length all) h }))
+        (λ h. (e, record { there = f .there; key-is = f .key-is; allowed = f .allowed; fitting-length = f .fitting-length; place-in = nltb→le high (length all) h }))
 
     valid-write-opening : (k : Key) (bytes : List ℕ) (z : Sizes) → SizedFor k z → Valid (row-of k) ((write-opening P k bytes z) .next)
     unfolding SizedFor write-opening

@@ -6,16 +6,18 @@ use mathlib.Core.Path.{_≡_, refl, sym, ap₂, _∙_}
 use mathlib.Core.Logic.{_⊎_, inl, inr}
 use mathlib.Core.Bool.{Bool, true, false, cond, not, _&&_, and-eq-true-iff}
 use mathlib.Core.List.{List, [], _∷_, _++_, append-assoc}
-use lib.Dec.{eqb, ltb}
+use lib.Dec.{leb, ltb}
 use lib.ListN.{length, take, drop, replicate, length-append, length-drop, take-append-drop}
 use lib.Seq.{take-at, take-take, length-take-le}
-use borrow.Author.Tests.{lt-ltb, eq-eqb, le-leb, ltb-true, eqb-true, leb-true}
+use borrow.Author.Tests.{lt-ltb, le-leb, ltb-true, leb-true}
 use Rattle.wire.specs.Splice.{splice}
 use Rattle.wire.proofs.SpliceLaws.{part-same}
 use Rattle.order.specs.Talk.{Request, open-read, next-part, expedited, open-write, send-part, give-up, unknown, no-transfer, Pending, idle, reading, writing}
 use Rattle.order.specs.Serve.{Form, over, read-part, keeping, write-part}
 use Rattle.table.specs.Rows.{row-count, at-row}
-use Rattle.table.specs.Find.{find-row}
+use Rattle.table.specs.Row.{smallest, largest, Allowed}
+use Rattle.table.specs.Find.{find-row, row-number}
+use Rattle.table.proofs.Lengths.{largest-is}
 use Rattle.table.specs.declared.Found.the-variants.{At}
 use Rattle.table.proofs.Table.{row-rule, find-at, row-found}
 use Rattle.sdo.specs.declared.Key.{Key}
@@ -23,19 +25,19 @@ use Rattle.sdo.specs.Lines.{Entries, gauge}
 use Rattle.transfer.specs.declared.Direction.{Direction}
 use Rattle.transfer.specs.declared.Direction.the-variants.{Neither, Reads, Writes}
 use Rattle.transfer.specs.declared.Transfer.{Transfer}
-use Rattle.transfer.specs.Records.{zero-record, key-at, number-found, row-of, allows, RowOf, counts, pending, view, zero-record-at, base, lay}
+use Rattle.transfer.specs.Records.{zero-record, key-at, row-of, allows, RowOf, counts, pending, view, zero-record-at, base, lay}
 use Rattle.transfer.specs.Turns.{is-reading, is-writing, filled, opened-record, turned, grown}
 
--- a transfer of an entry whose row allows it, of the row's length, with its place inside
+-- a transfer of an entry whose row allows it, of a length that its values may have, with its place inside
 pub record Fits (d : Direction) (row : ℕ) (k : Key) (len place : ℕ) : Type 0 where
   pub there : row < row-count
   pub key-is : k ≡ key-at row
   pub allowed : allows d (at-row row .access) ≡ true
-  pub length-is : len ≡ at-row row .len
+  pub fitting-length : Allowed (at-row row) len
   pub place-in : place ≤ len
 
 pub at-most-64 : {d : Direction} {row : ℕ} {k : Key} {len place : ℕ} → Fits d row k len place → len ≤ 64
-at-most-64 f = rw (f .length-is) (row-rule _ (f .there) .most)
+at-most-64 {row = row} f = let most = row-rule row (f .there) .most in omega (arith, f .fitting-length .not-over, largest-is (at-row row), most)
 
 -- a record that counts fits the table, and one that fits counts
 pub counts-fits : (t : Transfer) → counts t ≡ true → Fits (t .direction) (t .row) (key-at (t .row)) (t .len) (t .place)
@@ -43,12 +45,19 @@ unfolding counts
 counts-fits t e =
     let a = and-eq-true-iff (ltb (t .row) row-count) _ .0 e in
     let b = and-eq-true-iff (allows (t .direction) (at-row (t .row) .access)) _ .0 (a .1) in
-    let c = and-eq-true-iff (eqb (t .len) (at-row (t .row) .len)) _ .0 (b .1) in
-    record { there = ltb-true _ _ (a .0); key-is = refl; allowed = b .0; length-is = eqb-true _ _ (c .0); place-in = leb-true _ _ (c .1) }
+    let c = and-eq-true-iff (leb (smallest (at-row (t .row))) (t .len) && leb (t .len) (largest (at-row (t .row)))) _ .0 (b .1) in
+    let l = and-eq-true-iff (leb (smallest (at-row (t .row))) (t .len)) _ .0 (c .0) in
+    record {
+      there = ltb-true _ _ (a .0);
+      key-is = refl;
+      allowed = b .0;
+      fitting-length = record { enough = leb-true _ _ (l .0); not-over = leb-true _ _ (l .1) };
+      place-in = leb-true _ _ (c .1);
+    }
 
 pub fits-counts : (t : Transfer) (k : Key) → Fits (t .direction) (t .row) k (t .len) (t .place) → counts t ≡ true
 unfolding counts
-fits-counts t k f = rw (lt-ltb (t .row) row-count (f .there), f .allowed, eq-eqb (t .len) (at-row (t .row) .len) (f .length-is), le-leb (t .place) (t .len) (f .place-in))
+fits-counts t k f = rw (lt-ltb (t .row) row-count (f .there), f .allowed, le-leb _ _ (f .fitting-length .enough), le-leb _ _ (f .fitting-length .not-over), le-leb (t .place) (t .len) (f .place-in))
 
 -- an entry and the row that the table finds for it
 pub found-key : (k : Key) (row : ℕ) → find-row (k .index) (k .sub) ≡ At row → k ≡ key-at row
@@ -57,7 +66,7 @@ found-key k row e =
     ap₂ (λ (i s : ℕ). record { index = i; sub = s }) (sym (at .index-is)) (sym (at .sub-is))
 
 pub found-number : (k : Key) (row : ℕ) → find-row (k .index) (k .sub) ≡ At row → row-of k ≡ row
-unfolding number-found
+unfolding row-number
 found-number k row e = rw e
 
 pub row-fits : (d : Direction) (k : Key) (n place : ℕ) → RowOf d k n → place ≤ n → Fits d (row-of k) k n place
@@ -67,7 +76,7 @@ row-fits d k n place r h =
       there = (find-at (k .index) (k .sub) (r .row) (r .found)) .there;
       key-is = found-key k (r .row) (r .found);
       allowed = r .allowed;
-      length-is = r .length-is;
+      fitting-length = r .fitting-length;
       place-in = h;
     })
 
@@ -78,7 +87,7 @@ fits-row d row k n place f =
       row = row;
       found = row-found (at-row row .index) (at-row row .sub) row (record { there = f .there; index-is = refl; sub-is = refl });
       allowed = f .allowed;
-      length-is = f .length-is;
+      fitting-length = f .fitting-length;
     })
 
 -- a transfer that a record with this row can hold

@@ -9,9 +9,9 @@ use lib.ListN.{length, take, drop, replicate}
 use Rattle.order.specs.Talk.{Request, open-read, next-part, expedited, open-write, send-part, give-up, unknown, value, sizes, Outcome, stored, restarted, declined, Pending, idle, reading, writing}
 use Rattle.order.specs.Keep.{Keeping}
 use Rattle.table.specs.Rows.{row-count, at-row}
-use Rattle.table.specs.Find.{find-row}
-use Rattle.table.specs.declared.Found.{Found}
-use Rattle.table.specs.declared.Found.the-variants.{At, NoIndex, NoSub}
+use Rattle.table.specs.Row.{smallest, largest, Allowed}
+use Rattle.table.specs.Find.{find-row, row-number}
+use Rattle.table.specs.declared.Found.the-variants.{At}
 use Rattle.sdo.specs.declared.Key.{Key}
 use Rattle.sdo.specs.Lines.{Entries}
 use Rattle.transfer.specs.declared.Direction.{Direction}
@@ -26,13 +26,8 @@ zero-record = record { held = replicate 64 0; row = 0; direction = Neither; len 
 abbrev pub key-at : ℕ → Key
 key-at row = record { index = at-row row .index; sub = at-row row .sub }
 
-unfoldable pub number-found : Found → ℕ
-number-found (At row) = row
-number-found NoIndex = 0
-number-found NoSub = 0
-
 abbrev pub row-of : Key → ℕ
-row-of k = number-found (find-row (k .index) (k .sub))
+row-of k = row-number (find-row (k .index) (k .sub))
 
 -- does an access (1 read only, 2 write only, 3 both) allow the direction?
 unfoldable pub allows : Direction → ℕ → Bool
@@ -40,16 +35,16 @@ allows Neither access = false
 allows Reads access = eqb (access % 2) 1
 allows Writes access = leb 2 access
 
--- the entry has a row that allows the direction, of this length
+-- the entry has a row that allows the direction, and a value of it may have this length
 pub record RowOf (d : Direction) (k : Key) (n : ℕ) : Type 0 where
   pub row : ℕ
   pub found : find-row (k .index) (k .sub) ≡ At row
   pub allowed : allows d (at-row row .access) ≡ true
-  pub length-is : n ≡ at-row row .len
+  pub fitting-length : Allowed (at-row row) n
 
 -- does a record count? (R6.5)
 abbrev pub fitting : ℕ → Direction → ℕ → ℕ → Bool
-fitting row d len place = ltb row row-count && (allows d (at-row row .access) && (eqb len (at-row row .len) && leb place len))
+fitting row d len place = ltb row row-count && (allows d (at-row row .access) && ((leb (smallest (at-row row)) len && leb len (largest (at-row row))) && leb place len))
 
 unfoldable pub counts : Transfer → Bool
 unfolding allows
@@ -70,7 +65,7 @@ abbrev pub zero-record-at : ℕ → Transfer
 zero-record-at row = record { held = replicate 64 0; row = row; direction = Neither; len = 0; place = 0; toggle = false }
 
 unfoldable pub base : Transfer → Request Key → Transfer
-unfolding number-found
+unfolding row-number
 base t (open-read k) = zero-record-at (row-of k)
 base t (next-part u) = t
 base t (expedited k s bytes) = zero-record
@@ -99,8 +94,8 @@ module _ (E : Entries) (Good : E .Store → Type 0) where
   GoodAfter (restarted g) = Good g
   GoodAfter (declined c) = Unit {0}
 
-  -- what is asked of the entries: a value that is read, and an entry that may be written, have a row that allows it and the row's length.
-  -- Whole writes of the row's length and samples keep the store good
+  -- what is asked of the entries: a value that is read, and an entry that may be written, have a row that allows it and such a length.
+  -- Whole writes of an allowed length and samples keep the store good
   pub record Rows : Type 0 where
     pub read-row : (g : E .Store) (k : Key) (bytes : List ℕ) → Good g → E .read-whole g k ≡ value bytes → RowOf Reads k (length bytes)
     pub write-row : (k : Key) (low high : ℕ) → E .write-sizes k ≡ sizes low high → (low ≡ high) × RowOf Writes k high

@@ -4,7 +4,9 @@ ghost use mathlib.Core.Bool.{_&&_};
 ghost use mathlib.Core.Path.{_≡_};
 ghost use Prim.Native.Nat.{_+_, _≤_, _<_};
 ghost use lib.ListN.{length, take, drop};
+ghost use lib.Dec.{leb};
 ghost use Rattle.table.specs.Rows.{row-count};
+ghost use Rattle.find.specs.Columns.{smallest-in, largest-in};
 ghost use Rattle.transfer.specs.Records.{key-at, allows, fitting, counts};
 ghost use Rattle.transfer.specs.Turns.{is-reading, is-writing, opened-record, turned, grown};
 
@@ -44,6 +46,16 @@ fn access_allows(d: Direction, access: u8) -> bool
     }
 }
 
+// May a value of a row with this shape have this length?
+fn length_allowed(shape: u16, len: usize) -> bool
+    ensures { λ r. ⌜ r ≡ (leb (smallest-in shape) len && leb len (largest-in shape)) ⌝ }
+{
+    if len < find::field::smallest_in(shape) {
+        return false;
+    }
+    len <= find::field::largest_in(shape)
+}
+
 // Does a record with these fit the table, or does it count as none?
 fn counts(row: usize, d: Direction, len: usize, place: usize) -> bool
     ensures { λ r. ⌜ r ≡ fitting row d len place ⌝ }
@@ -53,7 +65,7 @@ fn counts(row: usize, d: Direction, len: usize, place: usize) -> bool
     }
     let shape = find::field::shape_of(row);
     if access_allows(d, find::field::access_in(shape)) {
-        if len == find::field::len_in(shape) {
+        if length_allowed(shape, len) {
             return place <= len;
         }
         return false;

@@ -6,7 +6,7 @@ use Prim.Native.Nat.{ℕ}
 use lib.Ieee.{binary32, ofBits, lt, add, sub}
 use Rattle.trip.specs.declared.Point.{Point}
 use Rattle.trip.specs.declared.On.{On}
-use Rattle.trip.specs.Trip.{settled, low-next, high-next, point-next, finite, usable-pressure, off, point-after}
+use Rattle.trip.specs.Trip.{side-settled, low-next, high-next, point-next, finite, usable-pressure, off, point-after}
 
 -- a point after each of some valid samples, whose pressures are given by their bit patterns
 abbrev pub over-samples : Point → On → List ℕ → List On
@@ -30,5 +30,5 @@ low-only b = record { high = false; low = b }
 pub example-K :
     over-samples half-low off (0x3f000000 ∷ 0x3e800000 ∷ 0x3f200000 ∷ 0x3f400000 ∷ [])
     ≡ low-only false ∷ low-only true ∷ low-only true ∷ low-only false ∷ []
-unfolding settled low-next high-next point-next finite usable-pressure off point-after ofBits lt add sub
+unfolding side-settled low-next high-next point-next finite usable-pressure off point-after ofBits lt add sub
 example-K = refl

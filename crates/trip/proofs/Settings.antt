@@ -3,17 +3,17 @@ use mathlib.Core.Path.{_≡_, refl}
 use mathlib.Core.Bool.{Bool, true, false, _&&_}
 use lib.Ieee.{Float, nan, inf, fin, binary32, add, sub, lt}
 use Rattle.trip.specs.declared.Side.{Side}
-use Rattle.trip.specs.Trip.{settled, low-next, high-next}
+use Rattle.trip.specs.Trip.{side-settled, low-next, high-next}
 
 -- off, if both hold
-pub both-hold : (enabled was : Bool) → settled enabled true true was ≡ false
-unfolding settled
+pub both-hold : (enabled was : Bool) → side-settled enabled true true was ≡ false
+unfolding side-settled
 both-hold true was = refl
 both-hold false was = refl
 
 -- neither holds: as it was, if it is enabled
-pub neither-holds : (enabled was : Bool) → settled enabled false false was ≡ enabled && was
-unfolding settled
+pub neither-holds : (enabled was : Bool) → side-settled enabled false false was ≡ enabled && was
+unfolding side-settled
 neither-holds true was = refl
 neither-holds false was = refl
 
@@ -58,10 +58,10 @@ module _ (side : Side) (was : Bool) (p : Float) where
   high-nan-level e = simp (e, nan-sub, above-nan, below-nan) (neither-holds (side .enabled) was)
 
   -- a NaN hysteresis: it goes on as ever, and never off by pressure
-  pub low-nan-hysteresis : side .hysteresis ≡ nan → low-next side was p ≡ settled (side .enabled) (lt p (side .level)) false was
+  pub low-nan-hysteresis : side .hysteresis ≡ nan → low-next side was p ≡ side-settled (side .enabled) (lt p (side .level)) false was
   unfolding low-next
   low-nan-hysteresis e = simp (e, add-nan, above-nan)
 
-  pub high-nan-hysteresis : side .hysteresis ≡ nan → high-next side was p ≡ settled (side .enabled) (lt (side .level) p) false was
+  pub high-nan-hysteresis : side .hysteresis ≡ nan → high-next side was p ≡ side-settled (side .enabled) (lt (side .level) p) false was
   unfolding high-next
   high-nan-hysteresis e = simp (e, sub-nan, below-nan)

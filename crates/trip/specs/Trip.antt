@@ -9,18 +9,18 @@ use Rattle.trip.specs.declared.On.{On}
 use Rattle.trip.specs.declared.Trips.{Trips}
 
 -- R10.7
-unfoldable pub settled : (enabled on off was : Bool) → Bool
-settled enabled on off was = cond enabled (cond off false (cond on true was)) false
+unfoldable pub side-settled : (enabled on off was : Bool) → Bool
+side-settled enabled on off was = cond enabled (cond off false (cond on true was)) false
 
 -- R10.5, R10.8
 unfoldable pub low-next : Side → Bool → Float → Bool
 low-next side was p =
-    settled (side .enabled) (lt p (side .level)) (lt (add binary32 (side .level) (side .hysteresis)) p) was
+    side-settled (side .enabled) (lt p (side .level)) (lt (add binary32 (side .level) (side .hysteresis)) p) was
 
 -- R10.6, R10.8
 unfoldable pub high-next : Side → Bool → Float → Bool
 high-next side was p =
-    settled (side .enabled) (lt (side .level) p) (lt p (sub binary32 (side .level) (side .hysteresis))) was
+    side-settled (side .enabled) (lt (side .level) p) (lt p (sub binary32 (side .level) (side .hysteresis))) was
 
 unfoldable pub point-next : Point → On → Float → On
 point-next point was p =

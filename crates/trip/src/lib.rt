@@ -1,6 +1,6 @@
 // Trip sides and points by value: how a sample turns them on and off.
 ghost use mathlib.Core.Path.{_≡_};
-ghost use Rattle.trip.specs.Trip.{settled, low-next, high-next, point-next, all-off, usable-pressure};
+ghost use Rattle.trip.specs.Trip.{side-settled, low-next, high-next, point-next, all-off, usable-pressure};
 
 pub struct Side {
     pub level: f32,
@@ -26,7 +26,7 @@ pub struct Trips {
 }
 
 fn settle(enabled: bool, on: bool, off: bool, was: bool) -> bool
-    ensures { λ r. ⌜ r ≡ settled enabled on off was ⌝ }
+    ensures { λ r. ⌜ r ≡ side-settled enabled on off was ⌝ }
 {
     if !enabled {
         return false;

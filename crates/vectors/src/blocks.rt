@@ -35,7 +35,7 @@ pub fn default_block() -> [u8; 512] {
 // A good block is taken and changes the values; a faulty one is refused and leaves every value byte.
 fn loads(name: &[u8], block: &[u8; 512], good: bool) {
     let mut values = [0x5Au8; 1024];
-    let taken = block::load(block, &mut values);
+    let taken = load::load(block, &mut values);
     let left = check::same(&values, &[0x5Au8; 1024]);
     say(name, (taken == good) & (left != good));
 }

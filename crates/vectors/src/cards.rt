@@ -119,10 +119,7 @@ pub fn shown() {
 
 // Expects the code of the verdict, 0 for none.
 fn judges(name: &[u8], card: [u64; 8], code: u32) {
-    say(
-        name,
-        entry::limits::code_of(enter::judge(&card_of(card))) == code,
-    );
+    say(name, limits::code_of(enter::judge(&card_of(card))) == code);
 }
 
 fn whole_cards() {

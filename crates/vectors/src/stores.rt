@@ -17,7 +17,7 @@ fn default_values() -> [u8; 1024] {
 // A store that is taken writes these 512 bytes.
 fn stores(name: &[u8], values: &[u8; 1024], expected: &[u8; 512]) {
     let mut block = [0xA5u8; 512];
-    let taken = block::store(values, &mut block);
+    let taken = store::store(values, &mut block);
     say(name, taken & check::same(&block, expected));
 }
 
@@ -79,7 +79,7 @@ pub fn stored() {
 // A lent NV value outside its limits: nothing is written.
 fn refuses(name: &[u8], values: &[u8; 1024]) {
     let mut block = [0xA5u8; 512];
-    let taken = block::store(values, &mut block);
+    let taken = store::store(values, &mut block);
     say(name, !taken & check::same(&block, &[0xA5u8; 512]));
 }
 
@@ -138,7 +138,7 @@ fn nv_defaults() -> [u8; 1024] {
 // The defaults loaded into zeros are these and no other byte.
 fn loads_defaults() {
     let mut values = [0u8; 1024];
-    let taken = block::load(&default_block(), &mut values);
+    let taken = load::load(&default_block(), &mut values);
     say(
         b"load: the defaults into zeros",
         taken & check::same(&values, &nv_defaults()),
@@ -149,9 +149,9 @@ fn loads_defaults() {
 fn comes_back() {
     let values = some_values();
     let mut block = [0u8; 512];
-    let stored = block::store(&values, &mut block);
+    let stored = store::store(&values, &mut block);
     let mut fresh = default_values();
-    let loaded = block::load(&block, &mut fresh);
+    let loaded = load::load(&block, &mut fresh);
     say(
         b"load: what was stored comes back",
         stored & loaded & check::same(&fresh, &values),
@@ -161,7 +161,7 @@ fn comes_back() {
 // Only NV entries are loaded: lock, summary and spare bytes stay.
 fn others_stay() {
     let mut values = other_values();
-    block::load(&default_block(), &mut values);
+    load::load(&default_block(), &mut values);
     compare_values(
         b"load: lock, summary and spare bytes stay",
         &values,
@@ -172,9 +172,9 @@ fn others_stay() {
 // What was loaded is stored as the same 512 bytes.
 fn same_block() {
     let mut values = [0x5Au8; 1024];
-    let loaded = block::load(&some_block(), &mut values);
+    let loaded = load::load(&some_block(), &mut values);
     let mut block = [0u8; 512];
-    let stored = block::store(&values, &mut block);
+    let stored = store::store(&values, &mut block);
     say(
         b"store: what was loaded, bit by bit",
         loaded & stored & check::same(&block, &some_block()),

@@ -9,12 +9,12 @@ use Rattle.block.proofs.Turns.{fields-long, cuts-long, limits-long, see
 use Rattle.block.proofs.good_entries.Statement.{statement}
 use Rattle.block.specs.Asked.{between, saved-front, Front}
 use Rattle.block.specs.Block.{widths}
-use Rattle.block.specs.Saved.{nv}
+use Rattle.block.specs.Saved.{saved-rows}
 use Rattle.table.specs.Rows.{nv-count}
 use Rattle.block.proofs.good_entries.Tie as tie
 
 abbrev Inv-loop : tie.InvT-loop
-Inv-loop kinds ats cuts lows highs block numbers₀ i₀ numbers i = (i ≤ nv-count) × (length numbers ≡ nv-count) × (saved-front (bits block) 8 nv ≡ i + saved-front (bits block) (8 + widths (take i nv)) (drop i nv)) × Front (bits block) numbers i
+Inv-loop kinds ats cuts lows highs block numbers₀ i₀ numbers i = (i ≤ nv-count) × (length numbers ≡ nv-count) × (saved-front (bits block) 8 saved-rows ≡ i + saved-front (bits block) (8 + widths (take i saved-rows)) (drop i saved-rows)) × Front (bits block) numbers i
 
 abbrev μ-loop : tie.MeasureT-loop
 μ-loop kinds ats cuts lows highs block numbers₀ i₀ numbers i = nv-count - i

@@ -9,7 +9,7 @@ use Rattle.table.specs.Rule.{pick, held}
 use Rattle.table.specs.Walk.{every}
 use Rattle.table.proofs.DefaultWords.{word-places, words}
 use Rattle.entry.proofs.Writes.{room-by}
-use Rattle.entry.specs.Entry.{stored, default-of, defaulted, defaults}
+use Rattle.entry.specs.Entry.{with-entry, default-of, defaulted, defaults}
 use Rattle.entry.specs.Words.{worded}
 use borrow.Author.Needs.{needs}
 use Rattle.entry.proofs.put_defaults.Statement.{statement}
@@ -32,7 +32,7 @@ same-length : tie.Need-same-length
 same-length c = search needs
 
 computed : worded word-places words (replicate 1024 0) ≡ defaults rows (replicate 1024 0)
-unfolding rows pick held stored default-of defaulted defaults little splice worded word-places words
+unfolding rows pick held with-entry default-of defaulted defaults little splice worded word-places words
 computed = refl
 
 returns : tie.Need-returns

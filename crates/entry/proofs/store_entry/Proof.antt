@@ -1,4 +1,4 @@
--- `store_entry` leaves `stored`: the rule keeps the copy inside the values.
+-- `store_entry` leaves `with-entry`: the rule keeps the copy inside the values.
 use Rattle.entry.proofs.Writes.{stored-is}
 use Rattle.table.proofs.Table.{row-rule}
 use Rattle.table.specs.Rows.{at-row}

@@ -6,7 +6,7 @@ use borrow.Author.Needs.{needs}
 use Rattle.wire.specs.Flags.{bit}
 use Rattle.wire.proofs.InARow.{four-in-a-row}
 use Rattle.table.specs.Places.{status-1, status-2}
-use Rattle.sample.specs.Sample.{with-trips}
+use Rattle.sample.specs.Sample.{with-trip-entries}
 use Rattle.sample.proofs.put_trips.Statement.{statement}
 use Rattle.sample.proofs.put_trips.Tie as tie
 
@@ -26,7 +26,7 @@ same-length : tie.Need-same-length
 same-length c = search needs
 
 returns : tie.Need-returns
-unfolding with-trips
+unfolding with-trip-entries
 returns c =
     let w = c .before .before in
     let o = w .before .before in

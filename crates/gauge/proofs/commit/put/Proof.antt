@@ -2,12 +2,13 @@
 use mathlib.Core.Path.{sym, _∙_}
 use borrow.Author.Needs.{needs}
 use Rattle.table.specs.Rows.{at-row}
+use Rattle.table.proofs.Lengths.{allowed-room}
 use Rattle.gauge.proofs.CommitLaws.{card-length, other-held, put-card, put-command, put-other}
 use Rattle.gauge.proofs.commit.put.Statement.{statement}
 use Rattle.gauge.proofs.commit.put.Tie as tie
 
 write-requires : tie.Need-write-requires
-write-requires c κs = let s = c .before .before .before .before .before in (s .pre .0, s .pre .4 ∙ card-length (s .args .row) (s .pre .2) (sym (s .pre .3) ∙ c .before .if1 .taken))
+write-requires c κs = let s = c .before .before .before .before .before in (s .pre .0, allowed-room (at-row (s .args .row)) (s .pre .4) ∙ card-length (s .args .row) (s .pre .2) (sym (s .pre .3) ∙ c .before .if1 .taken))
 
 same-length : tie.Need-same-length
 same-length c = search needs
@@ -37,7 +38,7 @@ returns-2 c =
 store-entry-requires : tie.Need-store-entry-requires
 store-entry-requires c κs =
     let s = c .before .before .before .before .before .before in
-    (s .pre .0, s .pre .2, s .pre .4 ∙ sym (other-held (s .args .row) (s .pre .2) (λ e. c .before .before .if1 .left (s .pre .3 ∙ e)) (λ e. c .before .if2 .left (s .pre .3 ∙ e))))
+    (s .pre .0, s .pre .2, allowed-room (at-row (s .args .row)) (s .pre .4) ∙ sym (other-held (s .args .row) (s .pre .2) (λ e. c .before .before .if1 .left (s .pre .3 ∙ e)) (λ e. c .before .if2 .left (s .pre .3 ∙ e))))
 
 same-length-4 : tie.Need-same-length-4
 same-length-4 c = search needs

@@ -4,7 +4,8 @@ use mathlib.Core.Bool.{Bool}
 use mathlib.Core.Logic.{⊎-elim}
 use Prim.Native.Nat.{_*_}
 use native.Mathlib.Omega.{arith}
-use Rattle.sdo.specs.Eight.{one}
+use Rattle.wire.specs.Flags.{bit}
+use Rattle.sdo.specs.Eight.{}
 use Rattle.sdo.proofs.Facts.{part-laid}
 use borrow.Author.Needs.{needs}
 use Rattle.sdo.proofs.answer.part_more.Statement.{statement}
@@ -53,8 +54,8 @@ returns : tie.Need-returns
 returns c =
     let j = c .before .before .before .before .before .before .before in
     let s = j .before in
-    let head : j .if1 .head ≡ 16 * one (s .args .toggle) =
-    ⊎-elim (λ q. q .1 ∙ ap (λ (b : Bool). 16 * one b) (sym (q .0 .taken))) (λ q. q .1 ∙ ap (λ (b : Bool). 16 * one b) (sym (q .0 .left))) (j .if1 .came) in
+    let head : j .if1 .head ≡ 16 * bit (s .args .toggle) =
+    ⊎-elim (λ q. q .1 ∙ ap (λ (b : Bool). 16 * bit b) (sym (q .0 .taken))) (λ q. q .1 ∙ ap (λ (b : Bool). 16 * bit b) (sym (q .0 .left))) (j .if1 .came) in
     part-laid (s .args .held .now) (s .args .place) (s .args .toggle) _ _ _ _ _ _ _ _ _ (omega (arith, head, s .pre)) refl refl refl refl refl refl refl
 
 pub part-more-spec : {M : Type 1} → statement M

@@ -1,0 +1,5 @@
+pub mod Real
+pub mod LimitsLaws
+mod Examples
+pub mod NumberLaws
+pub mod RowVerdicts
