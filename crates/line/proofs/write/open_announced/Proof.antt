@@ -27,8 +27,8 @@ returns c =
 
 open-parts-requires : tie.Need-open-parts-requires
 open-parts-requires c κs =
-    let s = c .before .before .before .before in
-    let within = no-fault (s .args .low) (s .args .high) (s .args .n) (c .before .before .length-fault .ensures) (c .before .if1 .left) in
+    let s = c .before .before .before .before .before .before in
+    let within = no-fault (s .args .low) (s .args .high) (s .args .n) (c .before .before .before .length-fault .ensures) (c .before .before .if1 .left) in
     (s .pre .0, omega (arith, within .1, s .pre .1))
 
 same-length-3 : tie.Need-same-length-3
