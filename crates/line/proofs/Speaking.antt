@@ -82,27 +82,27 @@ module _ (at : ℕ) (v b s a m : List ℕ) where
   -- ---- the opening of a write, by what the table says of its entry
 
   module _ (k : Key) where
-    abbrev value-told : Said → List ℕ → Sizes → Told
-    value-told said bytes z = served zero-record (conclude plain (store-of v b s) k (write-opened k) (judged-by plain (store-of v b s) k said bytes (narrow z said)))
+    abbrev value-opening : Said → List ℕ → Sizes → Told
+    value-opening said bytes z = served zero-record (conclude plain (store-of v b s) k (write-opened k) (judged-by plain (store-of v b s) k said bytes (narrow z said)))
 
     abbrev parts-told : Said → Sizes → Told
     parts-told said z = served (zero-record-at (row-of k)) (keeping plain (store-of v b s) (write-opening plain k [] (narrow z said)))
 
     abbrev opening-told : Opening → Sizes → Told
-    opening-told (Value n) z = value-told (announced n) (take n (drop 4 m)) z
-    opening-told Own z = value-told own (take 4 (drop 4 m)) z
+    opening-told (Value n) z = value-opening (announced n) (take n (drop 4 m)) z
+    opening-told Own z = value-opening own (take 4 (drop 4 m)) z
     opening-told (Announced n) z = parts-told (announced n) z
     opening-told Unsaid z = parts-told unsaid z
 
-    asked : (o : Opening) → heard-of m ≡ Asks (OpenWrite k o) → message-told at m v b s a ≡ opening-told o (write-sizes (k .index) (k .sub))
+    opening-asks : (o : Opening) → heard-of m ≡ Asks (OpenWrite k o) → message-told at m v b s a ≡ opening-told o (write-sizes (k .index) (k .sub))
     unfolding request-heard request-of base serve write-whole
-    asked (Value n) h = message-asks at s a v b m (expedited k (announced n) (take n (drop 4 m))) (ask-is m _ h)
-    asked Own h = message-asks at s a v b m (expedited k own (take 4 (drop 4 m))) (ask-is m _ h)
-    asked (Announced n) h = message-asks at s a v b m (open-write k (some n) []) (ask-is m _ h)
-    asked Unsaid h = message-asks at s a v b m (open-write k none []) (ask-is m _ h)
+    opening-asks (Value n) h = message-asks at s a v b m (expedited k (announced n) (take n (drop 4 m))) (ask-is m _ h)
+    opening-asks Own h = message-asks at s a v b m (expedited k own (take 4 (drop 4 m))) (ask-is m _ h)
+    opening-asks (Announced n) h = message-asks at s a v b m (open-write k (some n) []) (ask-is m _ h)
+    opening-asks Unsaid h = message-asks at s a v b m (open-write k none []) (ask-is m _ h)
 
     by-table : (o : Opening) (z : Sizes) {x : Told} → heard-of m ≡ Asks (OpenWrite k o) → write-sizes (k .index) (k .sub) ≡ z → x ≡ opening-told o z → x ≡ message-told at m v b s a
-    by-table o z h e q = q ∙ sym (asked o h ∙ ap (opening-told o) e)
+    by-table o z h e q = q ∙ sym (opening-asks o h ∙ ap (opening-told o) e)
 
     -- there is no way to a row
     pub said-shut : (o : Opening) (code : ℕ) {g : Gate} {s′ a′ : List ℕ} → heard-of m ≡ Asks (OpenWrite k o) → way-of g ≡ write-gate (find-row (k .index) (k .sub)) → g ≡ Shut code
@@ -132,9 +132,9 @@ module _ (at : ℕ) (v b s a m : List ℕ) where
       unfolding narrow narrowed
       said-own e q = by-table Own (sizes low high) e row-sizes q
 
-      parts : (z : Sizes) {s′ a′ : List ℕ} → kept s′ a′ ≡ replied at s a (zero-record-at row) (write-opening plain k [] z)
+      row-parts : (z : Sizes) {s′ a′ : List ℕ} → kept s′ a′ ≡ replied at s a (zero-record-at row) (write-opening plain k [] z)
           → told v b s′ a′ ≡ served (zero-record-at (row-of k)) (keeping plain (store-of v b s) (write-opening plain k [] z))
-      parts z q = rw (found-number k row found) (kept-told at s a v b (zero-record-at row) _ q)
+      row-parts z q = rw (found-number k row found) (kept-told at s a v b (zero-record-at row) _ q)
 
       pub said-announced : (n : ℕ) {s′ a′ : List ℕ} → heard-of m ≡ Asks (OpenWrite k (Announced n))
           → kept s′ a′ ≡ replied at s a (zero-record-at row) (write-opening plain k [] (narrowed low high (announced n))) → told v b s′ a′ ≡ message-told at m v b s a

@@ -1,9 +1,9 @@
 -- What the functions of a line leave in the lent bytes: replies, and requests served. Assumes nothing.
-use mathlib.Core.Path.{_≡_, refl, ap, ap₂, _∙_}
+use mathlib.Core.Path.{_≡_, ap, ap₂, _∙_}
 use mathlib.Core.List.{List}
 use Prim.Native.Nat.{ℕ}
 use Rattle.order.specs.Talk.{Request, Answer, Pending}
-use Rattle.order.specs.Serve.{Reply, Served, over, onwards, keeping, serve}
+use Rattle.order.specs.Serve.{Reply, over, onwards, keeping, serve}
 use Rattle.order.specs.Keep.{speak}
 use Rattle.sdo.specs.declared.Key.{Key}
 use Rattle.sdo.specs.Eight.{ask-of, answer-of, eight}

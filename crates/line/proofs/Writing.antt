@@ -41,7 +41,7 @@ use Rattle.line.proofs.Told.{over-replied, onwards-replied, kept-told, 
 -- ---- a length judged
 
 module _ (low high n : ℕ) {fault : ℕ} (e : fault ≡ by-length low high n (λ c. c) 0) where
-  pub by-fault : {A : Type 0} (refuse : ℕ → A) (pass : A) → (fault ≡ 0 → ⊥) → by-length low high n refuse pass ≡ refuse fault
+  by-fault : {A : Type 0} (refuse : ℕ → A) (pass : A) → (fault ≡ 0 → ⊥) → by-length low high n refuse pass ≡ refuse fault
   unfolding by-length
   by-fault {A} refuse pass d = go (ltb high n) (ltb n low) e
     where
@@ -59,7 +59,7 @@ module _ (low high n : ℕ) {fault : ℕ} (e : fault ≡ by-length low high n (�
       go false true p r q = let f : fault ≡ 101122067 = q in absurd (omega arith)
       go false false p r q = (r refl, p refl)
 
-pub let-through : {A : Type 0} (low high n : ℕ) (refuse : ℕ → A) (pass : A) → low ≤ n → n ≤ high → by-length low high n refuse pass ≡ pass
+let-through : {A : Type 0} (low high n : ℕ) (refuse : ℕ → A) (pass : A) → low ≤ n → n ≤ high → by-length low high n refuse pass ≡ pass
 unfolding by-length
 let-through low high n refuse pass l h = rw (le-ltb high n h, le-ltb n low l)
 
@@ -92,27 +92,27 @@ commit-open row w g bytes = commit-by-gate (at-row row .index) (at-row row .sub)
 
 -- what it leaves, by how it ends: the answer that agrees stands in the room already
 module _ (at : ℕ) (v b s a : List ℕ) (row : ℕ) where
-  abbrev ended : Outcome Store → Told
-  ended o = told-by at s a (spoken-over zero-record (conclude plain (store-of v b s) (key-at row) silent o))
+  abbrev concluded : Outcome Store → Told
+  concluded o = told-by at s a (spoken-over zero-record (conclude plain (store-of v b s) (key-at row) silent o))
 
-  by-row : Writable row → (bytes : List ℕ) → ended (with-trips (store-of v b s) (commit-row row bytes (memory-of v b))) ≡ ended (plain .commit (store-of v b s) (key-at row) bytes)
-  by-row w bytes = ap ended (sym (commit-open row w (store-of v b s) bytes))
+  by-row : Writable row → (bytes : List ℕ) → concluded (with-trips (store-of v b s) (commit-row row bytes (memory-of v b))) ≡ concluded (plain .commit (store-of v b s) (key-at row) bytes)
+  by-row w bytes = ap concluded (sym (commit-open row w (store-of v b s) bytes))
 
   module _ {v′ b′ s′ : List ℕ} {e : Ending} where
-    accepted : (o : Outcome Memory) → left e v′ b′ ≡ left-by (memory-of v b) o → e ≡ Accepted → s′ ≡ splice s at (record-bytes zero-record) → told v′ b′ s′ a ≡ ended (with-trips (store-of v b s) o)
+    accepted : (o : Outcome Memory) → left e v′ b′ ≡ left-by (memory-of v b) o → e ≡ Accepted → s′ ≡ splice s at (record-bytes zero-record) → told v′ b′ s′ a ≡ concluded (with-trips (store-of v b s) o)
     unfolding told-by settled conclude with-trips left-by lay answer-of
     accepted (stored n) q i z = rw (ap (λ (l : Left). l .values) q, ap (λ (l : Left). l .block) q, z, splice-none a 0)
     accepted (restarted n) q i z = let z : _≡_ {A = ℕ} 0 1 = cc (ap (λ (l : Left). l .ending) q) in absurd (omega arith)
     accepted (declined c) q i z = let z : _≡_ {A = ℕ} 0 1 = cc (ap (λ (l : Left). l .ending) q) in absurd (omega arith)
 
-    restarts : (o : Outcome Memory) → left e v′ b′ ≡ left-by (memory-of v b) o → e ≡ Restarted → s′ ≡ fresh-state s → told v′ b′ s′ a ≡ ended (with-trips (store-of v b s) o)
+    restarts : (o : Outcome Memory) → left e v′ b′ ≡ left-by (memory-of v b) o → e ≡ Restarted → s′ ≡ fresh-state s → told v′ b′ s′ a ≡ concluded (with-trips (store-of v b s) o)
     unfolding told-by settled conclude with-trips left-by lay answer-of
     restarts (stored n) q i z = let z : _≡_ {A = ℕ} 0 1 = cc (ap (λ (l : Left). l .ending) q) in absurd (omega arith)
     restarts (restarted n) q i z = rw (ap (λ (l : Left). l .values) q, ap (λ (l : Left). l .block) q, z, splice-none a 0)
     restarts (declined c) q i z = let z : _≡_ {A = ℕ} 0 1 = cc (ap (λ (l : Left). l .ending) q) in absurd (omega arith)
 
     refuses : (o : Outcome Memory) (code : ℕ) {k : Key} {a′ : List ℕ} → left e v′ b′ ≡ left-by (memory-of v b) o → e ≡ Refused code → k ≡ key-at row
-        → kept s′ a′ ≡ put-down at s a zero-record (answer-of (refused k code)) → told v′ b′ s′ a′ ≡ ended (with-trips (store-of v b s) o)
+        → kept s′ a′ ≡ put-down at s a zero-record (answer-of (refused k code)) → told v′ b′ s′ a′ ≡ concluded (with-trips (store-of v b s) o)
     unfolding told-by settled conclude with-trips left-by lay put-down
     refuses (stored n) code q i key z = let z : _≡_ {A = ℕ} 0 1 = cc (ap (λ (l : Left). l .ending) q) in absurd (omega arith)
     refuses (restarted n) code q i key z = let z : _≡_ {A = ℕ} 0 1 = cc (ap (λ (l : Left). l .ending) q) in absurd (omega arith)
@@ -122,14 +122,14 @@ module _ (at : ℕ) (v b s a : List ℕ) (row : ℕ) where
         ∙ ap (λ (k : Kept). told v b (k .state) (k .answer)) (z ∙ ap₂ (λ (j : Key) (n : ℕ). put-down at s a zero-record (answer-of (refused j n))) key same)
 
     module _ (w : Writable row) (bytes : List ℕ) (q : left e v′ b′ ≡ left-by (memory-of v b) (commit-row row bytes (memory-of v b))) where
-      pub accepted-told : e ≡ Accepted → s′ ≡ splice s at (record-bytes zero-record) → told v′ b′ s′ a ≡ ended (plain .commit (store-of v b s) (key-at row) bytes)
+      pub accepted-told : e ≡ Accepted → s′ ≡ splice s at (record-bytes zero-record) → told v′ b′ s′ a ≡ concluded (plain .commit (store-of v b s) (key-at row) bytes)
       accepted-told i z = accepted (commit-row row bytes (memory-of v b)) q i z ∙ by-row w bytes
 
-      pub restarted-told : e ≡ Restarted → s′ ≡ fresh-state s → told v′ b′ s′ a ≡ ended (plain .commit (store-of v b s) (key-at row) bytes)
+      pub restarted-told : e ≡ Restarted → s′ ≡ fresh-state s → told v′ b′ s′ a ≡ concluded (plain .commit (store-of v b s) (key-at row) bytes)
       restarted-told i z = restarts (commit-row row bytes (memory-of v b)) q i z ∙ by-row w bytes
 
       pub refused-told : (code : ℕ) {k : Key} {a′ : List ℕ} → e ≡ Refused code → k ≡ key-at row → kept s′ a′ ≡ put-down at s a zero-record (answer-of (refused k code))
-          → told v′ b′ s′ a′ ≡ ended (plain .commit (store-of v b s) (key-at row) bytes)
+          → told v′ b′ s′ a′ ≡ concluded (plain .commit (store-of v b s) (key-at row) bytes)
       refused-told code i key z = refuses (commit-row row bytes (memory-of v b)) code q i key z ∙ by-row w bytes
 
 -- with the answer in the room

@@ -1,7 +1,6 @@
 -- `line::write::length_fault`: by the tests. Assumes nothing.
 use borrow.Author.Tests.{lt-ltb, le-ltb}
 use Rattle.order.specs.Gauge.{by-length}
-use borrow.Author.Needs.{needs}
 use Rattle.line.proofs.write.length_fault.Statement.{statement}
 use Rattle.line.proofs.write.length_fault.Tie as tie
 

@@ -1,6 +1,5 @@
 -- `line::write::open_on`: by the opening. Assumes nothing.
-use mathlib.Core.Path.{_≡_, ap, _∙_}
-use Prim.Native.Nat.{_≤_}
+use mathlib.Core.Path.{ap, _∙_}
 use native.Mathlib.Omega.{arith}
 use Rattle.find.proofs.Shapes.{smallest-told, largest-told}
 use Rattle.sdo.specs.declared.Opening.{Opening}
