@@ -81,8 +81,9 @@ fn take_more(
     ensures { λ _. ⌜ kept (now (state .exit)) (now (room .exit)) ≡ replied at (now (state .entry)) (now (room .entry)) t (take-more plain (key-at (t .row)) (t .len) (t .len) (take (t .place) (t .held) ++ take count (drop from (now (m .entry)))) (not (t .toggle)) (part-taken (t .toggle))) ⌝ }
 {
     let row = t.row;
+    let len = t.len;
     let eight = answer::part_taken(t.toggle);
-    if t.len < t.place + count {
+    if len < t.place + count {
         reply::refused(state, at, room, transfer::key_at(row), code::TOO_LONG);
         return;
     }

@@ -5,6 +5,22 @@ use borrow.Author.Needs.{needs}
 use Rattle.line.proofs.write.open_announced.Statement.{statement}
 use Rattle.line.proofs.write.open_announced.Tie as tie
 
+returns-2 : tie.Need-returns-2
+returns-2 c =
+    let s = c .before .before .before .before .before .before .before .before .before .before .before in
+    let p = s .args .at in
+    let o = s .args .state .now in
+    let a = s .args .room .now in
+    announced-right p o a (s .args .k) (s .args .row) (s .args .len) (s .args .n) (c .before .before .before .before .before .before .before .before .length-fault .ensures) (c .before .before .before .before .before .before .before .if1 .left) (c .before .before .before .before .open-parts .ensures)
+
+returns : tie.Need-returns
+returns c =
+    let s = c .before .before .before .before .before .before .before .before .before .before .before in
+    let p = s .args .at in
+    let o = s .args .state .now in
+    let a = s .args .room .now in
+    announced-refused p o a (s .args .k) (s .args .row) (s .args .len) (s .args .n) (c .before .before .before .before .before .before .before .before .length-fault .ensures) (c .before .before .before .before .before .before .before .if1 .taken) (c .before .before .before .before .refused .ensures)
+
 length-fault-requires : tie.Need-length-fault-requires
 length-fault-requires c κs = search needs
 

@@ -30,7 +30,7 @@ same-length-2 c = search needs
 
 returns : tie.Need-returns
 returns c =
-    let s = c .before .before .before .before .before .before .before .before .before .before .before .before .before .before .before in
+    let s = c .before .before .before .before .before .before .before .before .before .before .before .before .before .before in
     let p = s .args .at in
     let o = s .args .state .now in
     let a = s .args .room .now in
@@ -41,11 +41,11 @@ returns c =
     let most : t .len ≤ 64 = row-most (s .pre .2) (s .pre .3) in
     let whole : length (t .held) ≡ 64 = search needs in
     let inside : t .place ≤ length (t .held) = omega (arith, s .pre .4) in
-    more-refused p o a t bytes inside long (c .before .before .before .before .before .key-at .ensures) (c .before .before .before .before .before .before .before .before .if1 .taken) (c .before .before .before .before .refused .ensures)
+    more-refused p o a t bytes inside long (c .before .before .before .before .before .key-at .ensures) (omega (arith, most, c .before .before .before .before .before .before .before .before .if1 .taken)) (c .before .before .before .before .refused .ensures)
 
 put-part-requires : tie.Need-put-part-requires
 put-part-requires c κs =
-    let s = c .before .before .before .before .before .before .before .before in let most = row-most (s .pre .2) (s .pre .3) in (s .pre .0 .inside, s .pre .5, s .pre .1, (most, c .before .if1 .left))
+    let s = c .before .before .before .before .before .before .before in let most = row-most (s .pre .2) (s .pre .3) in (s .pre .0 .inside, s .pre .5, s .pre .1, (most, omega (arith, c .before .if1 .left)))
 
 tell-requires : tie.Need-tell-requires
 tell-requires c κs = search needs
@@ -58,7 +58,7 @@ same-length-4 c = search needs
 
 returns-2 : tie.Need-returns-2
 returns-2 c =
-    let s = c .before .before .before .before .before .before .before .before .before .before .before .before .before .before .before in
+    let s = c .before .before .before .before .before .before .before .before .before .before .before .before .before .before in
     let p = s .args .at in
     let o = s .args .state .now in
     let a = s .args .room .now in
@@ -69,7 +69,7 @@ returns-2 c =
     let most : t .len ≤ 64 = row-most (s .pre .2) (s .pre .3) in
     let whole : length (t .held) ≡ 64 = search needs in
     let inside : t .place ≤ length (t .held) = omega (arith, s .pre .4) in
-    more-taken p o a t bytes inside long (c .before .before .before .before .before .before .before .before .if1 .left) (c .before .before .before .before .before .before .put-part .ensures) (c .before .before .tell .ensures) (c .before .before .before .before .before .before .before .before .before .before .before .part-taken .ensures)
+    more-taken p o a t bytes inside long (c .before .before .before .before .before .before .before .before .if1 .left) (c .before .before .before .before .before .before .put-part .ensures) (c .before .before .tell .ensures) (c .before .before .before .before .before .before .before .before .before .before .part-taken .ensures)
 
 pub take-more-spec : {M : Type 1} → statement M
 take-more-spec =
