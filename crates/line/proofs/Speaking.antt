@@ -139,9 +139,9 @@ module _ (at : ℕ) (v b s a m : List ℕ) where
       pub said-announced : (n : ℕ) {s′ a′ : List ℕ} → heard-of m ≡ Asks (OpenWrite k (Announced n))
           → kept s′ a′ ≡ replied at s a (zero-record-at row) (write-opening plain k [] (narrowed low high (announced n))) → told v b s′ a′ ≡ message-told at m v b s a
       unfolding narrow
-      said-announced n e q = by-table (Announced n) (sizes low high) e row-sizes (parts _ q)
+      said-announced n e q = by-table (Announced n) (sizes low high) e row-sizes (row-parts _ q)
 
       pub said-unsaid : {s′ a′ : List ℕ} → heard-of m ≡ Asks (OpenWrite k Unsaid)
           → kept s′ a′ ≡ replied at s a (zero-record-at row) (write-opening plain k [] (sizes high high)) → told v b s′ a′ ≡ message-told at m v b s a
       unfolding narrow narrowed
-      said-unsaid e q = by-table Unsaid (sizes low high) e row-sizes (parts _ (q ∙ smallest-forgotten at s a k row low high))
+      said-unsaid e q = by-table Unsaid (sizes low high) e row-sizes (row-parts _ (q ∙ smallest-forgotten at s a k row low high))

@@ -11,7 +11,7 @@ returns-2 c =
     let p = s .args .at in
     let o = s .args .state .now in
     let a = s .args .room .now in
-    announced-right p o a (s .args .k) (s .args .row) (s .args .len) (s .args .n) (c .before .before .before .before .before .before .before .before .length-fault .ensures) (c .before .before .before .before .before .before .before .if1 .left) (c .before .before .before .before .open-parts .ensures)
+    announced-right p o a (s .args .k) (s .args .row) (s .args .low) (s .args .high) (s .args .n) (c .before .before .before .before .before .before .before .before .length-fault .ensures) (c .before .before .before .before .before .before .before .if1 .left) (c .before .before .before .before .open-parts .ensures)
 
 returns : tie.Need-returns
 returns c =
@@ -19,7 +19,7 @@ returns c =
     let p = s .args .at in
     let o = s .args .state .now in
     let a = s .args .room .now in
-    announced-refused p o a (s .args .k) (s .args .row) (s .args .len) (s .args .n) (c .before .before .before .before .before .before .before .before .length-fault .ensures) (c .before .before .before .before .before .before .before .if1 .taken) (c .before .before .before .before .refused .ensures)
+    announced-refused p o a (s .args .k) (s .args .row) (s .args .low) (s .args .high) (s .args .n) (c .before .before .before .before .before .before .before .before .length-fault .ensures) (c .before .before .before .before .before .before .before .if1 .taken) (c .before .before .before .before .refused .ensures)
 
 length-fault-requires : tie.Need-length-fault-requires
 length-fault-requires c κs = search needs
@@ -33,14 +33,6 @@ same-length c = search needs
 same-length-2 : tie.Need-same-length-2
 same-length-2 c = search needs
 
-returns : tie.Need-returns
-returns c =
-    let s = c .before .before .before .before .before .before .before .before .before .before .before in
-    let p = s .args .at in
-    let o = s .args .state .now in
-    let a = s .args .room .now in
-    announced-refused p o a (s .args .k) (s .args .row) (s .args .low) (s .args .high) (s .args .n) (c .before .before .before .before .before .before .before .before .length-fault .ensures) (c .before .before .before .before .before .before .before .if1 .taken) (c .before .before .before .before .refused .ensures)
-
 open-parts-requires : tie.Need-open-parts-requires
 open-parts-requires c κs =
     let s = c .before .before .before .before .before .before in
@@ -52,14 +44,6 @@ same-length-3 c = search needs
 
 same-length-4 : tie.Need-same-length-4
 same-length-4 c = search needs
-
-returns-2 : tie.Need-returns-2
-returns-2 c =
-    let s = c .before .before .before .before .before .before .before .before .before .before .before in
-    let p = s .args .at in
-    let o = s .args .state .now in
-    let a = s .args .room .now in
-    announced-right p o a (s .args .k) (s .args .row) (s .args .low) (s .args .high) (s .args .n) (c .before .before .before .before .before .before .before .before .length-fault .ensures) (c .before .before .before .before .before .before .before .if1 .left) (c .before .before .before .before .open-parts .ensures)
 
 pub open-announced-spec : {M : Type 1} → statement M
 open-announced-spec =
