@@ -100,13 +100,25 @@ pub fn put_record(state: &mut [u8], at: usize, t: Transfer)
     put_tail(state, at, t);
 }
 
+// count bytes of m, from a byte on, to a place. Most parts are full; of a count that the compiler knows it makes no loop.
+fn copy_part(state: &mut [u8], place: usize, m: &[u8], from: usize, count: usize)
+    requires { ⌜ (place + count ≤ length (now state)) × (from + count ≤ length (now m)) ⌝ }
+    ensures { λ _. ⌜ now (state .exit) ≡ splice (now (state .entry)) place (take count (drop from (now (m .entry)))) ⌝ }
+{
+    if count == sdo::PART {
+        wire::copy_at(state, place, m, from, sdo::PART);
+    } else {
+        wire::copy_at(state, place, m, from, count);
+    }
+}
+
 // The record that stands there with the part of a write that is count bytes of m, from a byte on: only the part and what stands behind the
 // held bytes are written.
 pub fn put_part(state: &mut [u8], at: usize, t: Transfer, m: &[u8], from: usize, count: usize)
     requires { ⌜ (at + record-size ≤ length (now state)) × (t ≡ record-at (now state) at) × (from + count ≤ length (now m)) × ((t .len ≤ 64) × (t .place + count ≤ t .len)) ⌝ }
     ensures { λ _. ⌜ now (state .exit) ≡ splice (now (state .entry)) at (record-bytes (grown t (take count (drop from (now (m .entry)))))) ⌝ }
 {
-    wire::copy_at(state, at + t.place, m, from, count);
+    copy_part(state, at + t.place, m, from, count);
     put_tail(state, at, transfer::grown(t, m, from, count));
 }
 
