@@ -4,9 +4,9 @@ use mathlib.Core.Bool.{Bool, true, false, cond, not, Bool·beq, _&&_}
 use mathlib.Core.List.{List, [], _++_}
 use Prim.Native.Nat.{ℕ, _+_, _≤_, _<_}
 use native.Mathlib.Omega.{arith}
-use lib.Dec.{ltb}
+use lib.Dec.{leb, ltb}
 use lib.ListN.{length, take, replicate, length-take}
-use borrow.Author.Tests.{ltb-false, leb-true, lt-ltb, le-ltb, ne-eqb}
+use borrow.Author.Tests.{ltb-true, ltb-false, leb-true, lt-ltb, le-ltb, lt-leb, le-leb, ne-eqb}
 use Rattle.wire.specs.Splice.{splice}
 use Rattle.wire.specs.Little.{little}
 use Rattle.wire.proofs.SpliceLaws.{splice-none, splice-again}
@@ -35,28 +35,44 @@ use Rattle.transfer.specs.Turns.{is-writing, opened-record, grown}
 use Rattle.transfer.proofs.RecordLaws.{view-writing, no-writing, held-fits, sent-length, lay-writing, lay-begun}
 use Rattle.state.specs.State.{record-at, record-bytes, fresh-state, settled}
 use Rattle.line.specs.Gauge.{bag552, plain, store-of}
-use Rattle.line.specs.Serving.{Kept, kept, put-down, replied, Told, told, told-by, spoken-over, Writable}
+use Rattle.line.specs.Serving.{Kept, kept, put-down, misfit-code, replied, Told, told, told-by, spoken-over, Writable}
 use Rattle.line.proofs.Told.{over-replied, onwards-replied, kept-told, over-told}
 
 -- ---- a length judged
 
-module _ (low high n : ℕ) {fault : ℕ} (e : fault ≡ by-length low high n (λ c. c) 0) where
-  by-fault : {A : Type 0} (refuse : ℕ → A) (pass : A) → (fault ≡ 0 → ⊥) → by-length low high n refuse pass ≡ refuse fault
-  unfolding by-length
-  by-fault {A} refuse pass d = go (ltb high n) (ltb n low) e
-    where
-      go : (x y : Bool) → fault ≡ cond x too-long (cond y too-short 0) → cond x (refuse too-long) (cond y (refuse too-short) pass) ≡ refuse fault
-      go true y q = ap refuse (sym q)
-      go false true q = ap refuse (sym q)
-      go false false q = absurd (d q)
+pub below-misfits : (low high n : ℕ) → n < low → false ≡ by-length low high n (λ c. false) true
+unfolding by-length
+below-misfits low high n h = rw (lt-ltb n low h) (go (ltb high n))
+  where
+    go : (x : Bool) → false ≡ cond x false false
+    go true = refl
+    go false = refl
 
-  pub no-fault : fault ≡ 0 → (low ≤ n) × (n ≤ high)
+pub above-asked : (low high n : ℕ) → low ≤ n → leb n high ≡ by-length low high n (λ c. false) true
+unfolding by-length
+above-asked low high n h = rw (le-ltb n low h) (go (ltb high n) (ltb-true high n) (ltb-false high n))
+  where
+    go : (x : Bool) → (x ≡ true → high < n) → (x ≡ false → n ≤ high) → leb n high ≡ cond x false true
+    go true p q = lt-leb n high (p refl)
+    go false p q = le-leb n high (q refl)
+
+module _ (low high n : ℕ) {fits : Bool} (e : fits ≡ by-length low high n (λ c. false) true) where
+  by-misfit : {A : Type 0} (refuse : ℕ → A) (pass : A) → fits ≡ false → by-length low high n refuse pass ≡ refuse (misfit-code high n)
   unfolding by-length
-  no-fault z = go (ltb high n) (ltb n low) (ltb-false high n) (ltb-false n low) e
+  by-misfit {A} refuse pass d = go (ltb high n) (ltb n low) e
     where
-      go : (x y : Bool) → (x ≡ false → n ≤ high) → (y ≡ false → low ≤ n) → fault ≡ cond x too-long (cond y too-short 0) → (low ≤ n) × (n ≤ high)
-      go true y p r q = let f : fault ≡ 101122066 = q in absurd (omega arith)
-      go false true p r q = let f : fault ≡ 101122067 = q in absurd (omega arith)
+      go : (x y : Bool) → fits ≡ cond x false (cond y false true) → cond x (refuse too-long) (cond y (refuse too-short) pass) ≡ refuse (cond x too-long too-short)
+      go true y q = refl
+      go false true q = refl
+      go false false q = let z : _≡_ {A = ℕ} 0 1 = cc in absurd (omega arith)
+
+  pub within : fits ≡ true → (low ≤ n) × (n ≤ high)
+  unfolding by-length
+  within z = go (ltb high n) (ltb n low) (ltb-false high n) (ltb-false n low) e
+    where
+      go : (x y : Bool) → (x ≡ false → n ≤ high) → (y ≡ false → low ≤ n) → fits ≡ cond x false (cond y false true) → (low ≤ n) × (n ≤ high)
+      go true y p r q = let z : _≡_ {A = ℕ} 0 1 = cc in absurd (omega arith)
+      go false true p r q = let z : _≡_ {A = ℕ} 0 1 = cc in absurd (omega arith)
       go false false p r q = (r refl, p refl)
 
 let-through : {A : Type 0} (low high n : ℕ) (refuse : ℕ → A) (pass : A) → low ≤ n → n ≤ high → by-length low high n refuse pass ≡ pass
@@ -165,22 +181,22 @@ module _ (at : ℕ) (v b s a : List ℕ) where
     unfolding conclude
     declined-told code q = over-told at s a v b zero-record (refused k code) refl q
 
-    module _ (low high n : ℕ) {fault : ℕ} (f : fault ≡ by-length low high n (λ c. c) 0) where
+    module _ (low high n : ℕ) {fits : Bool} (f : fits ≡ by-length low high n (λ c. false) true) where
       abbrev sized : Outcome Store
       sized = judged-by plain (store-of v b s) k (announced n) bytes (narrowed low high (announced n))
 
-      pub sized-refused : {s′ a′ : List ℕ} → (fault ≡ 0 → ⊥) → kept s′ a′ ≡ put-down at s a zero-record (answer-of (refused k fault)) → told v b s′ a′ ≡ outcome-told sized
+      pub sized-refused : {s′ a′ : List ℕ} → fits ≡ false → kept s′ a′ ≡ put-down at s a zero-record (answer-of (refused k (misfit-code high n))) → told v b s′ a′ ≡ outcome-told sized
       unfolding narrowed judged-by
-      sized-refused d q = declined-told fault q ∙ ap (λ (z : Sizes). outcome-told (judged-by plain (store-of v b s) k (announced n) bytes z)) (sym (by-fault low high n f closed (sizes n n) d))
+      sized-refused d q = declined-told (misfit-code high n) q ∙ ap (λ (z : Sizes). outcome-told (judged-by plain (store-of v b s) k (announced n) bytes z)) (sym (by-misfit low high n f closed (sizes n n) d))
 
-      pub sized-right : {x : Told} {value : List ℕ} → fault ≡ 0 → length bytes ≡ n → value ≡ bytes → x ≡ outcome-told (plain .commit (store-of v b s) k value) → x ≡ outcome-told sized
+      pub sized-right : {x : Told} {value : List ℕ} → fits ≡ true → length bytes ≡ n → value ≡ bytes → x ≡ outcome-told (plain .commit (store-of v b s) k value) → x ≡ outcome-told sized
       unfolding narrowed judged-by judged counted
       sized-right z l e q =
-          let within = no-fault low high n f z in
+          let in-range = within low high n f z in
           q
           ∙ ap (λ (y : List ℕ). outcome-told (plain .commit (store-of v b s) k y)) e
           ∙ ap outcome-told (sym (let-through n n (length bytes) declined (plain .commit (store-of v b s) k bytes) (omega arith) (omega arith)))
-          ∙ ap (λ (y : Sizes). outcome-told (judged-by plain (store-of v b s) k (announced n) bytes y)) (sym (let-through low high n closed (sizes n n) (within .0) (within .1)))
+          ∙ ap (λ (y : Sizes). outcome-told (judged-by plain (store-of v b s) k (announced n) bytes y)) (sym (let-through low high n closed (sizes n n) (in-range .0) (in-range .1)))
 
     abbrev own-length : ℕ → Outcome Store
     own-length high = judged-by plain (store-of v b s) k own bytes (sizes high high)
@@ -200,8 +216,8 @@ module _ (at : ℕ) (v b s a : List ℕ) where
 
   -- ---- the last part
 
-  module _ (t : Transfer) (bytes : List ℕ) (inside : t .place ≤ length (t .held)) {count fault : ℕ} (long : length bytes ≡ count)
-      (f : fault ≡ by-length (t .len) (t .len) (t .place + count) (λ c. c) 0) where
+  module _ (t : Transfer) (bytes : List ℕ) (inside : t .place ≤ length (t .held)) {count : ℕ} {fits : Bool} (long : length bytes ≡ count)
+      (f : fits ≡ by-length (t .len) (t .len) (t .place + count) (λ c. false) true) where
     abbrev all : List ℕ
     all = take (t .place) (t .held) ++ bytes
 
@@ -215,21 +231,21 @@ module _ (at : ℕ) (v b s a : List ℕ) where
     unfolding judged
     all-judged = ap (λ (n : ℕ). by-length (t .len) (t .len) n declined (plain .commit (store-of v b s) (key-at (t .row)) all)) (sym (sent-length t bytes inside ∙ ap (λ (n : ℕ). t .place + n) long))
 
-    pub last-refused : {k : Key} {s′ a′ : List ℕ} → k ≡ key-at (t .row) → (fault ≡ 0 → ⊥) → kept s′ a′ ≡ put-down at s a zero-record (answer-of (refused k fault)) → told v b s′ a′ ≡ last-part
+    pub last-refused : {k : Key} {s′ a′ : List ℕ} → k ≡ key-at (t .row) → fits ≡ false → kept s′ a′ ≡ put-down at s a zero-record (answer-of (refused k (misfit-code (t .len) (t .place + count)))) → told v b s′ a′ ≡ last-part
     unfolding take-part conclude
     last-refused key d q =
-        over-told at s a v b t (refused (key-at (t .row)) fault) (ap (λ (k : Key). answer-of (refused k fault)) key) q
-        ∙ ap last-told (sym (by-fault (t .len) (t .len) (t .place + count) f declined (plain .commit (store-of v b s) (key-at (t .row)) all) d) ∙ all-judged)
+        over-told at s a v b t (refused (key-at (t .row)) (misfit-code (t .len) (t .place + count))) (ap (λ (k : Key). answer-of (refused k (misfit-code (t .len) (t .place + count)))) key) q
+        ∙ ap last-told (sym (by-misfit (t .len) (t .len) (t .place + count) f declined (plain .commit (store-of v b s) (key-at (t .row)) all) d) ∙ all-judged)
 
-    pub last-right : {x : Told} {a′ eight held : List ℕ} → fault ≡ 0 → eight ≡ answer-of (part-taken (t .toggle)) → a′ ≡ splice a 0 eight → held ≡ all
+    pub last-right : {x : Told} {a′ eight held : List ℕ} → fits ≡ true → eight ≡ answer-of (part-taken (t .toggle)) → a′ ≡ splice a 0 eight → held ≡ all
         → x ≡ told-by at s a′ (spoken-over zero-record (conclude plain (store-of v b s) (key-at (t .row)) silent (plain .commit (store-of v b s) (key-at (t .row)) held)))
         → x ≡ last-part
     unfolding take-part answer-of
     last-right z e r h q =
-        let within = no-fault (t .len) (t .len) (t .place + count) f z in
+        let in-range = within (t .len) (t .len) (t .place + count) f z in
         rw h at q
         ∙ agreed-told at s a t (store-of v b s) (key-at (t .row)) (part-taken (t .toggle)) (r ∙ ap (splice a 0) e) refl (plain .commit (store-of v b s) (key-at (t .row)) all)
-        ∙ ap last-told (sym (let-through (t .len) (t .len) (t .place + count) declined (plain .commit (store-of v b s) (key-at (t .row)) all) (within .0) (within .1)) ∙ all-judged)
+        ∙ ap last-told (sym (let-through (t .len) (t .len) (t .place + count) declined (plain .commit (store-of v b s) (key-at (t .row)) all) (in-range .0) (in-range .1)) ∙ all-judged)
 
 -- ---- replies: a part that is not the last, and openings of writes in parts
 
@@ -272,20 +288,20 @@ module _ (at : ℕ) (s a : List ℕ) where
         go true = refl
         go false = refl
 
-    module _ (low high n : ℕ) {fault : ℕ} (f : fault ≡ by-length low high n (λ c. c) 0) where
-      pub announced-refused : {x : Kept} → (fault ≡ 0 → ⊥) → x ≡ put-down at s a zero-record (answer-of (refused k fault))
+    module _ (low high n : ℕ) {fits : Bool} (f : fits ≡ by-length low high n (λ c. false) true) where
+      pub announced-refused : {x : Kept} → fits ≡ false → x ≡ put-down at s a zero-record (answer-of (refused k (misfit-code high n)))
           → x ≡ replied at s a (zero-record-at row) (write-opening plain k [] (narrowed low high (announced n)))
       unfolding write-opening narrowed
       announced-refused d q =
-          over-replied at s a (zero-record-at row) (refused k fault) refl q
-          ∙ ap (λ (z : Sizes). replied at s a (zero-record-at row) (write-opening plain k [] z)) (sym (by-fault low high n f closed (sizes n n) d))
+          over-replied at s a (zero-record-at row) (refused k (misfit-code high n)) refl q
+          ∙ ap (λ (z : Sizes). replied at s a (zero-record-at row) (write-opening plain k [] z)) (sym (by-misfit low high n f closed (sizes n n) d))
 
-      pub announced-right : {x : Kept} → fault ≡ 0 → x ≡ replied at s a (zero-record-at row) (write-opening plain k [] (sizes n n))
+      pub announced-right : {x : Kept} → fits ≡ true → x ≡ replied at s a (zero-record-at row) (write-opening plain k [] (sizes n n))
           → x ≡ replied at s a (zero-record-at row) (write-opening plain k [] (narrowed low high (announced n)))
       unfolding narrowed
       announced-right z q =
-          let within = no-fault low high n f z in
-          q ∙ ap (λ (y : Sizes). replied at s a (zero-record-at row) (write-opening plain k [] y)) (sym (let-through low high n closed (sizes n n) (within .0) (within .1)))
+          let in-range = within low high n f z in
+          q ∙ ap (λ (y : Sizes). replied at s a (zero-record-at row) (write-opening plain k [] y)) (sym (let-through low high n closed (sizes n n) (in-range .0) (in-range .1)))
 
 -- ---- a part, by the record
 

@@ -1,9 +1,12 @@
 -- SHAPE: what the functions of a line are held to: replies and requests served, as crate order has them, in the lent bytes. Assumes nothing.
 use Prim.Native.Nat.{ℕ, _+_, _≤_, _<_}
+use mathlib.Core.Bool.{cond}
 use mathlib.Core.List.{List}
+use lib.Dec.{ltb}
 use mathlib.Core.Path.{_≡_}
 use lib.ListN.{length}
 use Rattle.wire.specs.Splice.{splice}
+use Rattle.order.specs.Gauge.{too-long, too-short}
 use Rattle.order.specs.Serve.{Reply, Served, left}
 use Rattle.order.specs.Keep.{Spoken, is-wiped, speak}
 use Rattle.table.specs.Row.{RO}
@@ -31,6 +34,10 @@ put-down at state room next bytes = kept (splice state at (record-bytes next)) (
 unfoldable pub replied : ℕ → List ℕ → List ℕ → Transfer → Reply plain → Kept
 unfolding put-down
 replied at state room b r = put-down at state room (lay b (r .next)) (answer-of (r .answer))
+
+-- the code for a length that does not fit, by the largest
+abbrev pub misfit-code : ℕ → ℕ → ℕ
+misfit-code high n = cond (ltb high n) too-long too-short
 
 -- ---- with the memory
 

@@ -1,6 +1,7 @@
 // How a message is answered: the line's next record in the state, and the answer in the room that is lent for it.
 use sdo::Key;
 use sdo::answer;
+use table::code;
 use transfer::Transfer;
 ghost use mathlib.Core.Path.{_≡_};
 ghost use Prim.Native.Nat.{_≤_};
@@ -10,7 +11,7 @@ ghost use Rattle.order.specs.Talk.{refused, dropped};
 ghost use Rattle.order.specs.Serve.{toggle-code};
 ghost use Rattle.sdo.specs.Eight.{answer-of};
 ghost use Rattle.transfer.specs.Records.{zero-record};
-ghost use Rattle.line.specs.Serving.{Room, kept, put-down};
+ghost use Rattle.line.specs.Serving.{Room, kept, put-down, misfit-code};
 
 // The answer at the head of the room.
 pub fn tell(room: &mut [u8], eight: [u8; 8])
@@ -52,4 +53,16 @@ pub fn wrong_toggle(state: &mut [u8], at: usize, room: &mut [u8], k: Key)
     ensures { λ _. ⌜ kept (now (state .exit)) (now (room .exit)) ≡ put-down at (now (state .entry)) (now (room .entry)) zero-record (answer-of (dropped k toggle-code)) ⌝ }
 {
     ended(state, at, room, answer::abort(k, answer::WRONG_TOGGLE));
+}
+
+// A length that no value of the entry may have.
+pub fn misfit(state: &mut [u8], at: usize, room: &mut [u8], k: Key, high: usize, n: usize)
+    requires { ⌜ Room at (now state) (now room) ⌝ }
+    ensures { λ _. ⌜ kept (now (state .exit)) (now (room .exit)) ≡ put-down at (now (state .entry)) (now (room .entry)) zero-record (answer-of (refused k (misfit-code high n))) ⌝ }
+{
+    if high < n {
+        refused(state, at, room, k, code::TOO_LONG);
+        return;
+    }
+    refused(state, at, room, k, code::TOO_SHORT);
 }

@@ -8,7 +8,7 @@ use sdo::answer;
 use table::code;
 use transfer::Direction;
 use transfer::Transfer;
-ghost use mathlib.Core.Bool.{true, not};
+ghost use mathlib.Core.Bool.{true, false, not};
 ghost use mathlib.Core.List.{[], _++_};
 ghost use mathlib.Core.Path.{_≡_};
 ghost use Prim.Native.Nat.{_+_, _≤_};
@@ -29,17 +29,14 @@ ghost use Rattle.state.specs.State.{record-at};
 ghost use Rattle.line.specs.Gauge.{plain, store-of};
 ghost use Rattle.line.specs.Serving.{Room, Ready, Writable, kept, replied, told, told-by, spoken-over, message-told};
 
-// A length that a client says or has sent, against the smallest and the largest: the code that refuses it, or 0.
-fn length_fault(low: usize, high: usize, n: usize) -> u32
-    ensures { λ r. ⌜ r ≡ by-length low high n (λ c. c) 0 ⌝ }
+// May a value have the length that a client says or has sent, by the smallest and the largest?
+fn length_fits(low: usize, high: usize, n: usize) -> bool
+    ensures { λ r. ⌜ r ≡ by-length low high n (λ c. false) true ⌝ }
 {
-    if high < n {
-        return code::TOO_LONG;
-    }
     if n < low {
-        return code::TOO_SHORT;
+        return false;
     }
-    0
+    n <= high
 }
 
 // A whole write ends the transfer; after a device reset no line has one. The room has the answer that says yes already, so nothing more is
@@ -50,13 +47,13 @@ fn conclude(
     state: &mut [u8],
     at: usize,
     row: usize,
+    kind: u8,
     bytes: &[u8],
     room: &mut [u8],
 )
-    requires { ⌜ Ready at (now values) (now block) (now state) (now room) × Writable row × Allowed (at-row row) (length (now bytes)) ⌝ }
+    requires { ⌜ Ready at (now values) (now block) (now state) (now room) × Writable row × (kind ≡ at-row row .kind) × Allowed (at-row row) (length (now bytes)) ⌝ }
     ensures { λ _. ⌜ told (now (values .exit)) (now (block .exit)) (now (state .exit)) (now (room .exit)) ≡ told-by at (now (state .entry)) (now (room .entry)) (spoken-over zero-record (conclude plain (store-of (now (values .entry)) (now (block .entry)) (now (state .entry))) (key-at row) silent (plain .commit (store-of (now (values .entry)) (now (block .entry)) (now (state .entry))) (key-at row) (now (bytes .entry))))) ⌝ }
 {
-    let kind = find::field::kind_of(row);
     let ending = gauge::commit::commit(values, block, row, kind, bytes);
     match ending {
         Ending::Accepted => state::clear_record(state, at),
@@ -109,15 +106,16 @@ fn take_last(
     let row = t.row;
     let len = t.len;
     let eight = answer::part_taken(t.toggle);
-    let fault = length_fault(len, len, t.place + count);
-    if fault != 0 {
-        reply::refused(state, at, room, transfer::key_at(row), fault);
+    let total = t.place + count;
+    if length_fits(len, len, total) {
+        let next = transfer::grown(t, m, from, count);
+        let held = next.held;
+        let kind = find::field::kind_of(row);
+        reply::tell(room, eight);
+        conclude(values, block, state, at, row, kind, &held[..len], room);
         return;
     }
-    let next = transfer::grown(t, m, from, count);
-    let held = next.held;
-    reply::tell(room, eight);
-    conclude(values, block, state, at, row, &held[..len], room);
+    reply::misfit(state, at, room, transfer::key_at(row), len, total);
 }
 
 pub fn send_part(
@@ -178,8 +176,9 @@ fn with_value(
     requires { ⌜ Ready at (now values) (now block) (now state) (now room) × (Writable row × (k ≡ key-at row)) × Allowed (at-row row) (length (now bytes)) ⌝ }
     ensures { λ _. ⌜ told (now (values .exit)) (now (block .exit)) (now (state .exit)) (now (room .exit)) ≡ told-by at (now (state .entry)) (now (room .entry)) (spoken-over zero-record (conclude plain (store-of (now (values .entry)) (now (block .entry)) (now (state .entry))) k (write-opened k) (plain .commit (store-of (now (values .entry)) (now (block .entry)) (now (state .entry))) k (now (bytes .entry))))) ⌝ }
 {
+    let kind = find::field::kind_of(row);
     reply::tell(room, answer::write_opened(k));
-    conclude(values, block, state, at, row, bytes, room);
+    conclude(values, block, state, at, row, kind, bytes, room);
 }
 
 // A write of the count bytes of m, from a byte on.
@@ -200,21 +199,20 @@ fn write_sized(
     requires { ⌜ Ready at (now values) (now block) (now state) (now room) × (Writable row × (k ≡ key-at row)) × ((low ≡ smallest (at-row row)) × (high ≡ largest (at-row row))) × (from + count ≤ length (now m)) ⌝ }
     ensures { λ _. ⌜ told (now (values .exit)) (now (block .exit)) (now (state .exit)) (now (room .exit)) ≡ told-by at (now (state .entry)) (now (room .entry)) (spoken-over zero-record (conclude plain (store-of (now (values .entry)) (now (block .entry)) (now (state .entry))) k (write-opened k) (judged-by plain (store-of (now (values .entry)) (now (block .entry)) (now (state .entry))) k (announced count) (take count (drop from (now (m .entry)))) (narrowed low high (announced count))))) ⌝ }
 {
-    let fault = length_fault(low, high, count);
-    if fault != 0 {
-        reply::refused(state, at, room, k, fault);
+    if length_fits(low, high, count) {
+        with_value(
+            values,
+            block,
+            state,
+            at,
+            k,
+            row,
+            &m[from..from + count],
+            room,
+        );
         return;
     }
-    with_value(
-        values,
-        block,
-        state,
-        at,
-        k,
-        row,
-        &m[from..from + count],
-        room,
-    );
+    reply::misfit(state, at, room, k, high, count);
 }
 
 // A write of the entry's own length, of the count bytes that stand from a byte on.
@@ -238,7 +236,16 @@ fn write_own(
         reply::refused(state, at, room, k, code::TOO_SHORT);
         return;
     }
-    with_value(values, block, state, at, k, row, &m[from..from + high], room);
+    with_value(
+        values,
+        block,
+        state,
+        at,
+        k,
+        row,
+        &m[from..from + high],
+        room,
+    );
 }
 
 // A write in parts, its length announced.
@@ -256,12 +263,11 @@ fn open_announced(
     ensures { λ _. ⌜ kept (now (state .exit)) (now (room .exit)) ≡ replied at (now (state .entry)) (now (room .entry)) (zero-record-at row) (write-opening plain k [] (narrowed low high (announced n))) ⌝ }
 {
     let said = n as usize;
-    let fault = length_fault(low, high, said);
-    if fault != 0 {
-        reply::refused(state, at, room, k, fault);
+    if length_fits(low, high, said) {
+        open_parts(state, at, k, row, said, room);
         return;
     }
-    open_parts(state, at, k, row, said, room);
+    reply::misfit(state, at, room, k, high, said);
 }
 
 fn open_on(

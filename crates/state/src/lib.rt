@@ -100,13 +100,13 @@ pub fn put_record(state: &mut [u8], at: usize, t: Transfer)
     put_tail(state, at, t);
 }
 
-// count bytes of m, from a byte on, to a place. Most parts are full; of a count that the compiler knows it makes no loop.
+// count bytes of m, from a byte on, to a place. Most parts are full.
 fn copy_part(state: &mut [u8], place: usize, m: &[u8], from: usize, count: usize)
     requires { ⌜ (place + count ≤ length (now state)) × (from + count ≤ length (now m)) ⌝ }
     ensures { λ _. ⌜ now (state .exit) ≡ splice (now (state .entry)) place (take count (drop from (now (m .entry)))) ⌝ }
 {
     if count == sdo::PART {
-        wire::copy_at(state, place, m, from, sdo::PART);
+        wire::copy_seven(state, place, m, from);
     } else {
         wire::copy_at(state, place, m, from, count);
     }

@@ -112,6 +112,15 @@ pub fn copy_at(dst: &mut [u8], at: usize, src: &[u8], from: usize, n: usize)
     }
 }
 
+// Seven bytes, as most parts of a long value have: two words that share one.
+pub fn copy_seven(dst: &mut [u8], at: usize, src: &[u8], from: usize)
+    requires { ⌜ (at + 7 ≤ length (now dst)) × (from + 7 ≤ length (now src)) ⌝ }
+    ensures { λ _. ⌜ now (dst .exit) ≡ splice (now (dst .entry)) at (take 7 (drop from (now (src .entry)))) ⌝ }
+{
+    put_word(dst, at, word_at(src, from));
+    put_word(dst, at + 3, word_at(src, from + 3));
+}
+
 pub fn clear(s: &mut [u8])
     ensures { λ _. ⌜ now (s .exit) ≡ replicate (length (now (s .entry))) 0 ⌝ }
 {

@@ -7,11 +7,11 @@ use borrow.Author.Needs.{needs}
 use Rattle.state.proofs.copy_part.Statement.{statement}
 use Rattle.state.proofs.copy_part.Tie as tie
 
+copy-seven-requires : tie.Need-copy-seven-requires
+copy-seven-requires c κs = search needs
+
 copy-at-requires : tie.Need-copy-at-requires
 copy-at-requires c κs = search needs
-
-copy-at-requires-2 : tie.Need-copy-at-requires-2
-copy-at-requires-2 c κs = search needs
 
 same-length : tie.Need-same-length
 same-length c = search needs
@@ -19,7 +19,7 @@ same-length c = search needs
 returns : tie.Need-returns
 returns c =
     let s = c .before .before .before .before .before .before .before in
-    c .before .before .copy-at .ensures
+    c .before .before .copy-seven .ensures
     ∙ ap (λ (n : ℕ). splice (s .args .state .now) (s .args .place) (take n (drop (s .args .from) (s .args .m .now)))) (sym (c .before .before .before .before .if1 .taken))
 
 same-length-2 : tie.Need-same-length-2
@@ -31,4 +31,4 @@ returns-2 c = search needs
 pub copy-part-spec : {M : Type 1} → statement M
 copy-part-spec =
     tie.close
-    (tie.spec copy-at-requires copy-at-requires-2 same-length returns same-length-2 returns-2)
+    (tie.spec copy-seven-requires copy-at-requires same-length returns same-length-2 returns-2)

@@ -4,9 +4,6 @@ use borrow.Author.Needs.{needs}
 use Rattle.line.proofs.write.conclude.Statement.{statement}
 use Rattle.line.proofs.write.conclude.Tie as tie
 
-kind-of-requires : tie.Need-kind-of-requires
-kind-of-requires c κs = search needs
-
 commit-requires : tie.Need-commit-requires
 commit-requires c κs = search needs
 
@@ -42,7 +39,7 @@ same-length-3 c = search needs
 
 returns : tie.Need-returns
 returns c =
-    let s = c .before .before .before .before .before .before .before .before .before .before .before .before .before .before .before .before .before .before .before in
+    let s = c .before .before .before .before .before .before .before .before .before .before .before .before .before .before .before .before .before .before in
     let p = s .args .at in
     let v = s .args .values .now in
     let b = s .args .block .now in
@@ -61,7 +58,7 @@ same-length-6 c = search needs
 
 returns-2 : tie.Need-returns-2
 returns-2 c =
-    let s = c .before .before .before .before .before .before .before .before .before .before .before .before .before .before .before .before .before .before .before in
+    let s = c .before .before .before .before .before .before .before .before .before .before .before .before .before .before .before .before .before .before in
     let p = s .args .at in
     let v = s .args .values .now in
     let b = s .args .block .now in
@@ -83,7 +80,7 @@ same-length-10 c = search needs
 
 returns-3 : tie.Need-returns-3
 returns-3 c =
-    let s = c .before .before .before .before .before .before .before .before .before .before .before .before .before .before .before .before .before .before .before .before .before .before .before .before in
+    let s = c .before .before .before .before .before .before .before .before .before .before .before .before .before .before .before .before .before .before .before .before .before .before .before in
     let p = s .args .at in
     let v = s .args .values .now in
     let b = s .args .block .now in
@@ -95,7 +92,6 @@ pub conclude-spec : {M : Type 1} → statement M
 conclude-spec =
     tie.close
     (tie.spec
-    kind-of-requires
     commit-requires
     enum-told
     clear-record-requires

@@ -3,11 +3,11 @@ use mathlib.Core.Path.{_≡_, sym, ap, _∙_}
 use Prim.Native.Nat.{_+_, _≤_}
 use native.Mathlib.Omega.{arith}
 use lib.ListN.{length, take, drop}
-use Rattle.wire.proofs.SpliceLaws.{part-length}
 use lib.Seq.{length-take-le}
+use Rattle.wire.proofs.SpliceLaws.{part-length}
 use Rattle.transfer.specs.declared.Transfer.{Transfer}
 use Rattle.transfer.proofs.RecordLaws.{all-held}
-use Rattle.line.proofs.Writing.{no-fault, row-most, last-refused, last-right}
+use Rattle.line.proofs.Writing.{within, row-most, last-refused, last-right}
 use borrow.Author.Needs.{needs}
 use Rattle.line.proofs.write.take_last.Statement.{statement}
 use Rattle.line.proofs.write.take_last.Tie as tie
@@ -15,18 +15,46 @@ use Rattle.line.proofs.write.take_last.Tie as tie
 part-taken-requires : tie.Need-part-taken-requires
 part-taken-requires c κs = search needs
 
-add-length-fault : tie.Need-add-length-fault
-add-length-fault c =
+add-total : tie.Need-add-total
+add-total c =
     let s = c .before .before .before .before .before .before .before in let most = row-most (s .pre .2) (s .pre .3) in omega (arith, most, s .pre .1, s .pre .4, s .good .1 .1 .1 .1 .1 .0)
 
-length-fault-requires : tie.Need-length-fault-requires
-length-fault-requires c κs = search needs
+length-fits-requires : tie.Need-length-fits-requires
+length-fits-requires c κs = search needs
 
-key-at-requires : tie.Need-key-at-requires
-key-at-requires c κs = search needs
+grown-requires : tie.Need-grown-requires
+grown-requires c κs =
+    let s = c .before .before .before .before .before .before .before .before .before in
+    let t = s .args .t in
+    (s .pre .1, (row-most (s .pre .2) (s .pre .3), within (t .len) (t .len) (t .place + s .args .count) (c .before .length-fits .ensures) (c .if1 .taken) .1))
 
-refused-requires : tie.Need-refused-requires
-refused-requires c κs = search needs
+kind-of-requires : tie.Need-kind-of-requires
+kind-of-requires c κs = search needs
+
+tell-requires : tie.Need-tell-requires
+tell-requires c κs = search needs
+
+array-share-prefix-held : tie.Need-array-share-prefix-held
+array-share-prefix-held c =
+    let s = c .before .before .before .before .before .before .before .before .before .before .before .before .before .before .before .before .before .before .before in
+    let near = c .before .before .before .before .before .before .before .before .before .grown .ok in
+    let whole : length (c .before .before .before .before .before .before .before .before .before .grown .result .held) ≡ 64 = search needs in
+    omega (arith, whole, row-most (s .pre .2) (s .pre .3))
+
+slice-aggregate-conclude : tie.Need-slice-aggregate-conclude
+slice-aggregate-conclude c =
+    let s = c .before .before .before .before .before .before .before .before .before .before .before .before .before .before .before .before .before .before .before .before in
+    let near = c .before .before .before .before .before .before .before .before .before .before .grown .ok in
+    let whole : length (c .before .before .before .before .before .before .before .before .before .before .grown .result .held) ≡ 64 = search needs in
+    sym (length-take-le (s .args .t .len) (c .before .before .before .before .before .before .before .before .before .before .grown .result .held) (omega (arith, row-most (s .pre .2) (s .pre .3))))
+
+conclude-requires : tie.Need-conclude-requires
+conclude-requires c κs =
+    let s = c .before .before .before .before .before .before .before .before .before .before .before .before .before .before .before .before .before .before .before .before .before in
+    let near = c .before .before .before .before .before .before .before .before .before .before .before .grown .ok in
+    let whole : length (c .before .before .before .before .before .before .before .before .before .before .before .grown .result .held) ≡ 64 = search needs in
+    let long = length-take-le (s .args .t .len) (c .before .before .before .before .before .before .before .before .before .before .before .grown .result .held) (omega (arith, row-most (s .pre .2) (s .pre .3))) in
+    (search needs, s .pre .2, c .before .before .before .before .before .before .before .before .before .kind-of .ensures, record { enough = omega (arith, long, s .pre .3 .enough); not-over = omega (arith, long, s .pre .3 .not-over) })
 
 same-length : tie.Need-same-length
 same-length c = search needs
@@ -34,8 +62,47 @@ same-length c = search needs
 same-length-2 : tie.Need-same-length-2
 same-length-2 c = search needs
 
+same-length-3 : tie.Need-same-length-3
+same-length-3 c = search needs
+
+same-length-4 : tie.Need-same-length-4
+same-length-4 c = search needs
+
 returns : tie.Need-returns
 returns c =
+    let s = c .before .before .before .before .before .before .before .before .before .before .before .before .before .before .before .before .before .before .before .before .before .before .before .before .before .before .before .before .before .before in
+    let p = s .args .at in
+    let v = s .args .values .now in
+    let b = s .args .block .now in
+    let o = s .args .state .now in
+    let a = s .args .room .now in
+    let t = s .args .t in
+    let m = s .args .m .now in
+    let bytes = take (s .args .count) (drop (s .args .from) m) in
+    let long : length bytes ≡ s .args .count = part-length m (s .args .from) (s .args .count) (s .pre .1) in
+    let most : t .len ≤ 64 = row-most (s .pre .2) (s .pre .3) in
+    let whole : length (t .held) ≡ 64 = search needs in
+    let inside : t .place ≤ length (t .held) = omega (arith, whole, most, s .pre .4) in
+    let f = c .before .before .before .before .before .before .before .before .before .before .before .before .before .before .before .before .before .before .before .before .before .before .length-fits .ensures in
+    let in-range = within (t .len) (t .len) (t .place + s .args .count) f (c .before .before .before .before .before .before .before .before .before .before .before .before .before .before .before .before .before .before .before .before .before .if1 .taken) in
+    last-right p v b o a t bytes inside long f (c .before .before .before .before .before .before .before .before .before .before .before .before .before .before .before .before .before .before .before .before .before .if1 .taken) (c .before .before .before .before .before .before .before .before .before .before .before .before .before .before .before .before .before .before .before .before .before .before .before .before .part-taken .ensures) (c .before .before .before .before .before .before .before .before .before .before .before .before .before .before .before .before .tell .ensures)
+    (ap (λ (n : Transfer). take (t .len) (n .held)) (c .before .before .before .before .before .before .before .before .before .before .before .before .before .before .before .before .before .before .before .before .grown .ensures) ∙ all-held t bytes inside (omega (arith, long, in-range .0, in-range .1)))
+    (c .before .before .before .before .before .before .before .before .conclude .ensures)
+
+key-at-requires : tie.Need-key-at-requires
+key-at-requires c κs = search needs
+
+misfit-requires : tie.Need-misfit-requires
+misfit-requires c κs = search needs
+
+same-length-5 : tie.Need-same-length-5
+same-length-5 c = search needs
+
+same-length-6 : tie.Need-same-length-6
+same-length-6 c = search needs
+
+returns-2 : tie.Need-returns-2
+returns-2 c =
     let s = c .before .before .before .before .before .before .before .before .before .before .before .before .before .before .before .before .before in
     let p = s .args .at in
     let v = s .args .values .now in
@@ -48,91 +115,29 @@ returns c =
     let long : length bytes ≡ s .args .count = part-length m (s .args .from) (s .args .count) (s .pre .1) in
     let most : t .len ≤ 64 = row-most (s .pre .2) (s .pre .3) in
     let whole : length (t .held) ≡ 64 = search needs in
-    let inside : t .place ≤ length (t .held) = omega (arith, s .pre .4) in
-    last-refused p v b o a t bytes inside long (c .before .before .before .before .before .before .before .before .before .length-fault .ensures) (c .before .before .before .before .before .key-at .ensures) (c .before .before .before .before .before .before .before .before .if1 .taken) (c .before .before .before .before .refused .ensures)
-
-grown-requires : tie.Need-grown-requires
-grown-requires c κs =
-    let s = c .before .before .before .before .before .before .before .before .before in
-    let t = s .args .t in
-    (s .pre .1, (row-most (s .pre .2) (s .pre .3), no-fault (t .len) (t .len) (t .place + s .args .count) (c .before .length-fault .ensures) (c .if1 .left) .1))
-
-tell-requires : tie.Need-tell-requires
-tell-requires c κs = search needs
-
-array-share-prefix-held : tie.Need-array-share-prefix-held
-array-share-prefix-held c =
-    let s = c .before .before .before .before .before .before .before .before .before .before .before .before .before .before .before .before .before .before in
-    let near = c .before .before .before .before .before .before .before .before .grown .ok in
-    let whole : length (c .before .before .before .before .before .before .before .before .grown .result .held) ≡ 64 = search needs in
-    omega (arith, whole, row-most (s .pre .2) (s .pre .3))
-
-slice-aggregate-conclude : tie.Need-slice-aggregate-conclude
-slice-aggregate-conclude c =
-    let s = c .before .before .before .before .before .before .before .before .before .before .before .before .before .before .before .before .before .before .before in
-    let near = c .before .before .before .before .before .before .before .before .before .grown .ok in
-    let whole : length (c .before .before .before .before .before .before .before .before .before .grown .result .held) ≡ 64 = search needs in
-    sym (length-take-le (s .args .t .len) (c .before .before .before .before .before .before .before .before .before .grown .result .held) (omega (arith, row-most (s .pre .2) (s .pre .3))))
-
-conclude-requires : tie.Need-conclude-requires
-conclude-requires c κs =
-    let s = c .before .before .before .before .before .before .before .before .before .before .before .before .before .before .before .before .before .before .before .before in
-    let near = c .before .before .before .before .before .before .before .before .before .before .grown .ok in
-    let whole : length (c .before .before .before .before .before .before .before .before .before .before .grown .result .held) ≡ 64 = search needs in
-    let long = length-take-le (s .args .t .len) (c .before .before .before .before .before .before .before .before .before .before .grown .result .held) (omega (arith, row-most (s .pre .2) (s .pre .3))) in
-    (search needs, s .pre .2, record { enough = omega (arith, long, s .pre .3 .enough); not-over = omega (arith, long, s .pre .3 .not-over) })
-
-same-length-3 : tie.Need-same-length-3
-same-length-3 c = search needs
-
-same-length-4 : tie.Need-same-length-4
-same-length-4 c = search needs
-
-same-length-5 : tie.Need-same-length-5
-same-length-5 c = search needs
-
-same-length-6 : tie.Need-same-length-6
-same-length-6 c = search needs
-
-returns-2 : tie.Need-returns-2
-returns-2 c =
-    let s = c .before .before .before .before .before .before .before .before .before .before .before .before .before .before .before .before .before .before .before .before .before .before .before .before .before .before .before .before .before in
-    let p = s .args .at in
-    let v = s .args .values .now in
-    let b = s .args .block .now in
-    let o = s .args .state .now in
-    let a = s .args .room .now in
-    let t = s .args .t in
-    let m = s .args .m .now in
-    let bytes = take (s .args .count) (drop (s .args .from) m) in
-    let long : length bytes ≡ s .args .count = part-length m (s .args .from) (s .args .count) (s .pre .1) in
-    let most : t .len ≤ 64 = row-most (s .pre .2) (s .pre .3) in
-    let whole : length (t .held) ≡ 64 = search needs in
-    let inside : t .place ≤ length (t .held) = omega (arith, s .pre .4) in
-    let within = no-fault (t .len) (t .len) (t .place + s .args .count) (c .before .before .before .before .before .before .before .before .before .before .before .before .before .before .before .before .before .before .before .before .before .length-fault .ensures) (c .before .before .before .before .before .before .before .before .before .before .before .before .before .before .before .before .before .before .before .before .if1 .left) in
-    last-right p v b o a t bytes inside long (c .before .before .before .before .before .before .before .before .before .before .before .before .before .before .before .before .before .before .before .before .before .length-fault .ensures) (c .before .before .before .before .before .before .before .before .before .before .before .before .before .before .before .before .before .before .before .before .if1 .left) (c .before .before .before .before .before .before .before .before .before .before .before .before .before .before .before .before .before .before .before .before .before .before .before .part-taken .ensures) (c .before .before .before .before .before .before .before .before .before .before .before .before .before .before .before .before .tell .ensures)
-    (ap (λ (n : Transfer). take (t .len) (n .held)) (c .before .before .before .before .before .before .before .before .before .before .before .before .before .before .before .before .before .before .before .grown .ensures) ∙ all-held t bytes inside (omega (arith, long, within .0, within .1)))
-    (c .before .before .before .before .before .before .before .before .conclude .ensures)
+    let inside : t .place ≤ length (t .held) = omega (arith, whole, most, s .pre .4) in
+    last-refused p v b o a t bytes inside long (c .before .before .before .before .before .before .before .before .before .length-fits .ensures) (c .before .before .before .before .before .key-at .ensures) (c .before .before .before .before .before .before .before .before .if1 .left) (c .before .before .before .before .misfit .ensures)
 
 pub take-last-spec : {M : Type 1} → statement M
 take-last-spec =
     tie.close
     (tie.spec
     part-taken-requires
-    add-length-fault
-    length-fault-requires
-    key-at-requires
-    refused-requires
-    same-length
-    same-length-2
-    returns
+    add-total
+    length-fits-requires
     grown-requires
+    kind-of-requires
     tell-requires
     array-share-prefix-held
     slice-aggregate-conclude
     conclude-requires
+    same-length
+    same-length-2
     same-length-3
     same-length-4
+    returns
+    key-at-requires
+    misfit-requires
     same-length-5
     same-length-6
     returns-2)

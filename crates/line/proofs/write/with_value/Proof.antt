@@ -4,6 +4,9 @@ use borrow.Author.Needs.{needs}
 use Rattle.line.proofs.write.with_value.Statement.{statement}
 use Rattle.line.proofs.write.with_value.Tie as tie
 
+kind-of-requires : tie.Need-kind-of-requires
+kind-of-requires c κs = search needs
+
 write-opened-requires : tie.Need-write-opened-requires
 write-opened-requires c κs = search needs
 
@@ -27,7 +30,7 @@ same-length-4 c = search needs
 
 returns : tie.Need-returns
 returns c =
-    let s = c .before .before .before .before .before .before .before .before .before .before .before .before .before .before .before .before .before .before .before .before .before .before .before in
+    let s = c .before .before .before .before .before .before .before .before .before .before .before .before .before .before .before .before .before .before .before .before .before .before .before .before in
     let p = s .args .at in
     let v = s .args .values .now in
     let b = s .args .block .now in
@@ -39,6 +42,7 @@ pub with-value-spec : {M : Type 1} → statement M
 with-value-spec =
     tie.close
     (tie.spec
+    kind-of-requires
     write-opened-requires
     tell-requires
     conclude-requires
