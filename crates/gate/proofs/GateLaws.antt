@@ -54,17 +54,17 @@ pub record Opened (barred index sub row : ℕ) : Type 0 where
   pub found : find-row index sub ≡ At row
   pub allowed : at-row row .access ≡ barred → ⊥
 
-pub opened : (barred code index sub row : ℕ) (f : Found) → find-row index sub ≡ f → gate barred code f ≡ to-row row → Opened barred index sub row
+pub gate-opened : (barred code index sub row : ℕ) (f : Found) → find-row index sub ≡ f → gate barred code f ≡ to-row row → Opened barred index sub row
 unfolding gate
-opened barred code index sub row (At r) e g = go (eqb (at-row r .access) barred) refl g
+gate-opened barred code index sub row (At r) e g = go (eqb (at-row r .access) barred) refl g
   where
     go : (b : Bool) → eqb (at-row r .access) barred ≡ b → cond b (no-way code) (to-row r) ≡ to-row row → Opened barred index sub row
     go true q h = let z : _≡_ {A = ℕ} 0 1 = cc in absurd (omega arith)
     go false q h =
         let z : r ≡ row = cc in
         record { found = e ∙ ap At z; allowed = λ a. eqb-false (at-row r .access) barred q (ap (λ (n : ℕ). at-row n .access) z ∙ a) }
-opened barred code index sub row NoIndex e g = let z : _≡_ {A = ℕ} 0 1 = cc in absurd (omega arith)
-opened barred code index sub row NoSub e g = let z : _≡_ {A = ℕ} 0 1 = cc in absurd (omega arith)
+gate-opened barred code index sub row NoIndex e g = let z : _≡_ {A = ℕ} 0 1 = cc in absurd (omega arith)
+gate-opened barred code index sub row NoSub e g = let z : _≡_ {A = ℕ} 0 1 = cc in absurd (omega arith)
 
 -- the shape that comes with it is the row's
 pub shaped : (row s : ℕ) {g : Gate} → Shaped g → g ≡ Open row s → s ≡ shape (at-row row)

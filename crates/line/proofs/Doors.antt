@@ -8,7 +8,7 @@ use Rattle.table.proofs.Table.{find-at}
 use Rattle.gate.specs.Gates.{to-row, no-way, gate, way-of, Shaped}
 use Rattle.find.specs.declared.Gate.{Gate}
 use Rattle.find.specs.declared.Gate.the-variants.{Open, Shut}
-use Rattle.gate.proofs.GateLaws.{opened, shaped}
+use Rattle.gate.proofs.GateLaws.{gate-opened, shaped}
 use Rattle.sdo.specs.declared.Key.{Key}
 use Rattle.transfer.specs.Records.{key-at}
 use Rattle.transfer.proofs.RecordLaws.{found-key}
@@ -26,5 +26,5 @@ module _ (barred code : ℕ) (k : Key) {g : Gate} (way : way-of g ≡ gate barre
   -- what an open gate gives its caller: the row is in the table, the key is the row's, the shape too
   pub open-row : (row s : ℕ) → Shaped g → g ≡ Open row s → (row < row-count) × (k ≡ key-at row) × (s ≡ shape (at-row row))
   open-row row s h q =
-      let o = opened barred code (k .index) (k .sub) row (find-row (k .index) (k .sub)) refl (leads row s q) in
+      let o = gate-opened barred code (k .index) (k .sub) row (find-row (k .index) (k .sub)) refl (leads row s q) in
       (find-at (k .index) (k .sub) row (o .found) .there, found-key k row (o .found), shaped row s h q)

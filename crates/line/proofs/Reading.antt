@@ -9,7 +9,7 @@ use lib.Seq.{take-all, length-take-le}
 use borrow.Author.Tests.{le-leb, lt-leb}
 use Rattle.wire.specs.Splice.{splice}
 use Rattle.order.specs.Talk.{part-given, refused, dropped, no-transfer, value}
-use Rattle.order.specs.Talk.{opened as read-told}
+use Rattle.order.specs.Talk.{opened}
 use Rattle.order.specs.Serve.{toggle-code, read-opening, give-part, read-part}
 use Rattle.table.specs.Row.{WO, CARD}
 use Rattle.table.specs.Rows.{at-row, row-count}
@@ -18,7 +18,7 @@ use Rattle.table.specs.Codes.{write-only}
 use Rattle.gate.specs.Gates.{read-gate, way-of}
 use Rattle.find.specs.declared.Gate.{Gate}
 use Rattle.find.specs.declared.Gate.the-variants.{Open, Shut}
-use Rattle.gate.proofs.GateLaws.{opened}
+use Rattle.gate.proofs.GateLaws.{gate-opened}
 use Rattle.gauge.specs.Whole.{value-of, read-whole}
 use Rattle.gauge.proofs.ByGate.{read-through, read-by-gate}
 use Rattle.gauge.proofs.ValueLaws.{value-length, stored-value}
@@ -31,7 +31,7 @@ use Rattle.transfer.specs.Turns.{is-reading, filled, opened-record, turned}
 use Rattle.transfer.proofs.RecordLaws.{found-number, view-reading, no-reading, lay-reading, lay-opened, filled-value, part-within}
 use Rattle.state.specs.State.{record-bytes}
 use Rattle.line.specs.Gauge.{bag552, plain, store-of}
-use Rattle.line.specs.Serving.{Kept, kept, put-down, replied}
+use Rattle.line.specs.Serving.{Laid, laid, put-down, replied}
 use Rattle.line.proofs.Told.{over-replied, onwards-replied}
 use Rattle.line.proofs.Doors.{leads, stops}
 
@@ -41,17 +41,17 @@ pub answer-put : (a e : List ℕ) {a′ : List ℕ} → length e ≡ 8 → a′ 
 answer-put a e n q = q ∙ ap (splice a 0) (take-all 8 e (omega arith))
 
 module _ (at : ℕ) (s a : List ℕ) where
-  pub both-put : (t : Transfer) (e : List ℕ) {s′ a′ : List ℕ} → s′ ≡ splice s at (record-bytes t) → a′ ≡ splice a 0 e → kept s′ a′ ≡ put-down at s a t e
+  pub both-put : (t : Transfer) (e : List ℕ) {s′ a′ : List ℕ} → s′ ≡ splice s at (record-bytes t) → a′ ≡ splice a 0 e → laid s′ a′ ≡ put-down at s a t e
   unfolding put-down
   both-put t e p q = rw (p, q)
 
-  pub dropped-put : (k : Key) {x : Kept} {e : List ℕ} → e ≡ answer-of (refused k toggle-code) → x ≡ put-down at s a zero-record e → x ≡ put-down at s a zero-record (answer-of (dropped k toggle-code))
+  pub dropped-put : (k : Key) {x : Laid} {e : List ℕ} → e ≡ answer-of (refused k toggle-code) → x ≡ put-down at s a zero-record e → x ≡ put-down at s a zero-record (answer-of (dropped k toggle-code))
   unfolding answer-of
   dropped-put k q p = p ∙ ap (put-down at s a zero-record) q
 
 -- ---- parts
 
-module _ (at : ℕ) (s a : List ℕ) (t : Transfer) (long : length (t .held) ≡ 64) (most : t .len ≤ 64) {x : Kept} {e : List ℕ} where
+module _ (at : ℕ) (s a : List ℕ) (t : Transfer) (long : length (t .held) ≡ 64) (most : t .len ≤ 64) {x : Laid} {e : List ℕ} where
   pub given-last : t .len ≤ t .place + 7 → e ≡ answer-of (part-given (t .toggle) (take 7 (drop (t .place) (take (t .len) (t .held)))) true)
       → x ≡ put-down at s a zero-record e → x ≡ replied at s a t (give-part plain eight (key-at (t .row)) (take (t .len) (t .held)) (t .place) (t .toggle))
   unfolding give-part eight
@@ -68,7 +68,7 @@ module _ (at : ℕ) (s a : List ℕ) (t : Transfer) (long : length (t .held) ≡
       (onwards-replied at s a t _ _ _ (q ∙ ap (λ (l : List ℕ). answer-of (part-given (t .toggle) l false)) (sym (part-within 7 (t .place) (t .len) (t .held) (omega arith)))) (i ∙ sym (lay-reading t 7 (omega arith))) p)
 
 -- the record says whether a read is under way, and then its toggle whether the part is given
-module _ (at : ℕ) (s a : List ℕ) (t : Transfer) (u : Bool) {x : Kept} where
+module _ (at : ℕ) (s a : List ℕ) (t : Transfer) (u : Bool) {x : Laid} where
   module _ (reads : (is-reading (t .direction) && counts t) ≡ true) where
     pub next-given : Bool·beq (t .toggle) u ≡ true → x ≡ replied at s a t (give-part plain eight (key-at (t .row)) (take (t .len) (t .held)) (t .place) (t .toggle)) → x ≡ replied at s a t (read-part plain eight (view t) u)
     unfolding read-part
@@ -96,28 +96,28 @@ module _ (values : List ℕ) (row : ℕ) (there : row < row-count) (long : lengt
       let v = stored-value row there values l ∙ ap (λ (n : ℕ). take n (drop (at-row row .place) values)) (sym el) in
       ap (take len) (e ∙ sym v) ∙ take-all len (value-of (at-row row) values) (omega (arith, whole-length))
 
-  module _ (at : ℕ) (s a : List ℕ) (k : Key) {x : Kept} {e : List ℕ} where
-    pub read-short : short len ≡ true → e ≡ answer-of (read-told k len (value-of (at-row row) values) true) → x ≡ put-down at s a zero-record e
+  module _ (at : ℕ) (s a : List ℕ) (k : Key) {x : Laid} {e : List ℕ} where
+    pub read-short : short len ≡ true → e ≡ answer-of (opened k len (value-of (at-row row) values) true) → x ≡ put-down at s a zero-record e
         → x ≡ replied at s a (zero-record-at row) (read-opening plain eight k (value (value-of (at-row row) values)))
     unfolding read-opening eight
     read-short h q p =
         rw (whole-length, h, take-all len (value-of (at-row row) values) (omega (arith, whole-length))) (over-replied at s a (zero-record-at row) _ q p)
 
     pub read-long : {held : List ℕ} {n : Transfer} → short len ≡ false → held ≡ filled (value-of (at-row row) values) → n ≡ opened-record Reads row held len
-        → e ≡ answer-of (read-told k len [] false) → x ≡ put-down at s a n e → x ≡ replied at s a (zero-record-at row) (read-opening plain eight k (value (value-of (at-row row) values)))
+        → e ≡ answer-of (opened k len [] false) → x ≡ put-down at s a n e → x ≡ replied at s a (zero-record-at row) (read-opening plain eight k (value (value-of (at-row row) values)))
     unfolding read-opening eight
     read-long h i j q p =
         rw (whole-length, h)
         (onwards-replied at s a (zero-record-at row) _ _ _ q (j ∙ rw (i, ← whole-length) (sym (lay-opened row k (value-of (at-row row) values)))) p)
 
 -- a read goes through the gate of its key
-module _ (at : ℕ) (v s a : List ℕ) (k : Key) {g : Gate} (way : way-of g ≡ read-gate (find-row (k .index) (k .sub))) {x : Kept} where
+module _ (at : ℕ) (v s a : List ℕ) (k : Key) {g : Gate} (way : way-of g ≡ read-gate (find-row (k .index) (k .sub))) {x : Laid} where
   pub read-led : (row shape : ℕ) → g ≡ Open row shape → x ≡ replied at s a (zero-record-at row) (read-opening plain eight k (value (value-of (at-row row) v)))
       → x ≡ replied at s a (zero-record-at (row-of k)) (read-opening plain eight k (read-whole (store-of v [] s) (k .index) (k .sub)))
   unfolding read-through
   read-led row shape o p =
       let w = leads WO write-only k way row shape o in
-      let f = opened WO write-only (k .index) (k .sub) row (find-row (k .index) (k .sub)) refl w .found in
+      let f = gate-opened WO write-only (k .index) (k .sub) row (find-row (k .index) (k .sub)) refl w .found in
       p ∙ rw (found-number k row f, read-by-gate (k .index) (k .sub) (store-of v [] s), w)
 
   pub read-stopped : (c : ℕ) → g ≡ Shut c → x ≡ put-down at s a zero-record (answer-of (refused k c))

@@ -19,7 +19,7 @@ use Rattle.find.specs.Columns.{shape}
 use Rattle.find.specs.declared.Gate.{Gate}
 use Rattle.find.specs.declared.Gate.the-variants.{Open, Shut}
 use Rattle.gate.specs.Gates.{gate, write-gate, way-of, Shaped}
-use Rattle.gate.proofs.GateLaws.{opened, shaped}
+use Rattle.gate.proofs.GateLaws.{gate-opened, shaped}
 use Rattle.gauge.specs.Whole.{read-checked, read-whole, write-sizes}
 use Rattle.gauge.proofs.ByGate.{sizes-of, sizes-by-gate}
 use Rattle.sdo.specs.declared.Key.{Key}
@@ -34,8 +34,8 @@ use Rattle.transfer.specs.Records.{zero-record, zero-record-at, row-of, view, b
 use Rattle.transfer.proofs.RecordLaws.{found-number}
 use Rattle.state.specs.State.{record-at}
 use Rattle.line.specs.Gauge.{plain, store-of}
-use Rattle.line.specs.Serving.{kept, put-down, replied, Told, told, told-by, spoken-over, message-told, Writable}
-use Rattle.line.proofs.Told.{kept-told, over-told, message-asks}
+use Rattle.line.specs.Serving.{laid, put-down, replied, Told, told, told-by, spoken-over, message-told, Writable}
+use Rattle.line.proofs.Told.{laid-told, over-told, message-asks}
 use Rattle.line.proofs.Doors.{leads, stops}
 use Rattle.line.proofs.Writing.{smallest-forgotten}
 
@@ -45,7 +45,7 @@ module _ (k : Key) {g : Gate} (way : way-of g ≡ write-gate (find-row (k .index
   -- it leads to the entry's row
   pub write-led : (row sh : ℕ) → Shaped g → g ≡ Open row sh → Writable row × (find-row (k .index) (k .sub) ≡ At row) × (sh ≡ shape (at-row row))
   write-led row sh h q =
-      let o = opened RO read-only (k .index) (k .sub) row (find-row (k .index) (k .sub)) refl (leads RO read-only k way row sh q) in
+      let o = gate-opened RO read-only (k .index) (k .sub) row (find-row (k .index) (k .sub)) refl (leads RO read-only k way row sh q) in
       (record { there = find-at (k .index) (k .sub) row (o .found) .there; open-to-writes = o .allowed }, o .found, shaped row sh h q)
 
   shut-sizes : (code : ℕ) → g ≡ Shut code → write-sizes (k .index) (k .sub) ≡ closed code
@@ -63,18 +63,18 @@ module _ (at : ℕ) (v b s a m : List ℕ) where
   unfolding request-heard request-of base serve
   said-part u n last h q = q ∙ sym (message-asks at s a v b m (send-part u (take n (drop 1 m)) last) (ask-is m _ h))
 
-  pub said-next : (u : Bool) {s′ a′ : List ℕ} → heard-of m ≡ Asks (NextPart u) → kept s′ a′ ≡ replied at s a (record-at s at) (read-part plain eight (view (record-at s at)) u)
+  pub said-next : (u : Bool) {s′ a′ : List ℕ} → heard-of m ≡ Asks (NextPart u) → laid s′ a′ ≡ replied at s a (record-at s at) (read-part plain eight (view (record-at s at)) u)
       → told v b s′ a′ ≡ message-told at m v b s a
   unfolding request-heard request-of base serve
-  said-next u h q = kept-told at s a v b (record-at s at) _ q ∙ sym (message-asks at s a v b m (next-part u) (ask-is m _ h))
+  said-next u h q = laid-told at s a v b (record-at s at) _ q ∙ sym (message-asks at s a v b m (next-part u) (ask-is m _ h))
 
   -- a read does not look at the block
   pub said-read : (k : Key) {s′ a′ : List ℕ} → heard-of m ≡ Asks (OpenRead k)
-      → kept s′ a′ ≡ replied at s a (zero-record-at (row-of k)) (read-opening plain eight k (read-whole (store-of v [] s) (k .index) (k .sub))) → told v b s′ a′ ≡ message-told at m v b s a
+      → laid s′ a′ ≡ replied at s a (zero-record-at (row-of k)) (read-opening plain eight k (read-whole (store-of v [] s) (k .index) (k .sub))) → told v b s′ a′ ≡ message-told at m v b s a
   unfolding request-heard request-of base serve read-whole read-checked
-  said-read k h q = kept-told at s a v b (zero-record-at (row-of k)) _ q ∙ sym (message-asks at s a v b m (open-read k) (ask-is m _ h))
+  said-read k h q = laid-told at s a v b (zero-record-at (row-of k)) _ q ∙ sym (message-asks at s a v b m (open-read k) (ask-is m _ h))
 
-  pub said-unknown : {s′ a′ bytes : List ℕ} → heard-of m ≡ Asks Unknown → bytes ≡ answer-of no-transfer → kept s′ a′ ≡ put-down at s a zero-record bytes
+  pub said-unknown : {s′ a′ bytes : List ℕ} → heard-of m ≡ Asks Unknown → bytes ≡ answer-of no-transfer → laid s′ a′ ≡ put-down at s a zero-record bytes
       → told v b s′ a′ ≡ message-told at m v b s a
   unfolding request-heard request-of base serve
   said-unknown h e q = over-told at s a v b zero-record no-transfer e q ∙ sym (message-asks at s a v b m unknown (ask-is m _ h))
@@ -106,7 +106,7 @@ module _ (at : ℕ) (v b s a m : List ℕ) where
 
     -- there is no way to a row
     pub said-shut : (o : Opening) (code : ℕ) {g : Gate} {s′ a′ : List ℕ} → heard-of m ≡ Asks (OpenWrite k o) → way-of g ≡ write-gate (find-row (k .index) (k .sub)) → g ≡ Shut code
-        → kept s′ a′ ≡ put-down at s a zero-record (answer-of (refused k code)) → told v b s′ a′ ≡ message-told at m v b s a
+        → laid s′ a′ ≡ put-down at s a zero-record (answer-of (refused k code)) → told v b s′ a′ ≡ message-told at m v b s a
     unfolding narrow judged-by conclude write-opening
     said-shut o code {g} {s′} {a′} h way e q = by-table o (closed code) h (shut-sizes k way code e) (go o)
       where
@@ -132,16 +132,16 @@ module _ (at : ℕ) (v b s a m : List ℕ) where
       unfolding narrow narrowed
       said-own e q = by-table Own (sizes low high) e row-sizes q
 
-      row-parts : (z : Sizes) {s′ a′ : List ℕ} → kept s′ a′ ≡ replied at s a (zero-record-at row) (write-opening plain k [] z)
+      row-parts : (z : Sizes) {s′ a′ : List ℕ} → laid s′ a′ ≡ replied at s a (zero-record-at row) (write-opening plain k [] z)
           → told v b s′ a′ ≡ served (zero-record-at (row-of k)) (keeping plain (store-of v b s) (write-opening plain k [] z))
-      row-parts z q = rw (found-number k row found) (kept-told at s a v b (zero-record-at row) _ q)
+      row-parts z q = rw (found-number k row found) (laid-told at s a v b (zero-record-at row) _ q)
 
       pub said-announced : (n : ℕ) {s′ a′ : List ℕ} → heard-of m ≡ Asks (OpenWrite k (Announced n))
-          → kept s′ a′ ≡ replied at s a (zero-record-at row) (write-opening plain k [] (narrowed low high (announced n))) → told v b s′ a′ ≡ message-told at m v b s a
+          → laid s′ a′ ≡ replied at s a (zero-record-at row) (write-opening plain k [] (narrowed low high (announced n))) → told v b s′ a′ ≡ message-told at m v b s a
       unfolding narrow
       said-announced n e q = by-table (Announced n) (sizes low high) e row-sizes (row-parts _ q)
 
       pub said-unsaid : {s′ a′ : List ℕ} → heard-of m ≡ Asks (OpenWrite k Unsaid)
-          → kept s′ a′ ≡ replied at s a (zero-record-at row) (write-opening plain k [] (sizes high high)) → told v b s′ a′ ≡ message-told at m v b s a
+          → laid s′ a′ ≡ replied at s a (zero-record-at row) (write-opening plain k [] (sizes high high)) → told v b s′ a′ ≡ message-told at m v b s a
       unfolding narrow narrowed
       said-unsaid e q = by-table Unsaid (sizes low high) e row-sizes (row-parts _ (q ∙ smallest-forgotten at s a k row low high))

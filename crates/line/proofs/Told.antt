@@ -11,21 +11,21 @@ use Rattle.transfer.specs.declared.Transfer.{Transfer}
 use Rattle.transfer.specs.Records.{zero-record, view, base, lay}
 use Rattle.state.specs.State.{record-at, settled}
 use Rattle.line.specs.Gauge.{plain, store-of}
-use Rattle.line.specs.Serving.{Kept, kept, put-down, replied, told, told-by, spoken-over, message-told, Room, Ready}
+use Rattle.line.specs.Serving.{Laid, laid, put-down, replied, told, told-by, spoken-over, message-told, Room, Ready}
 
 -- the line's part of what a function is lent
 pub room-of : {at : ℕ} {v b s a : List ℕ} → Ready at v b s a → Room at s a
-room-of r = record { inside = rw (r .state-long) (r .place); eight = r .room }
+room-of r = record { inside = rw (r .state-long) (r .place); long-enough = r .room }
 
 -- ---- replies
 
 module _ (at : ℕ) (s a : List ℕ) where
   -- a transfer that is over leaves zeros, whatever its record would be laid over
-  pub over-replied : (b : Transfer) (t : Answer Key) {x : Kept} {bytes : List ℕ} → bytes ≡ answer-of t → x ≡ put-down at s a zero-record bytes → x ≡ replied at s a b (over plain t)
+  pub over-replied : (b : Transfer) (t : Answer Key) {x : Laid} {bytes : List ℕ} → bytes ≡ answer-of t → x ≡ put-down at s a zero-record bytes → x ≡ replied at s a b (over plain t)
   unfolding replied lay
   over-replied b t e q = q ∙ ap (put-down at s a zero-record) e
 
-  pub onwards-replied : (b next : Transfer) (y : Pending Key) (t : Answer Key) {x : Kept} {bytes : List ℕ} → bytes ≡ answer-of t → next ≡ lay b y → x ≡ put-down at s a next bytes
+  pub onwards-replied : (b next : Transfer) (y : Pending Key) (t : Answer Key) {x : Laid} {bytes : List ℕ} → bytes ≡ answer-of t → next ≡ lay b y → x ≡ put-down at s a next bytes
       → x ≡ replied at s a b (onwards plain y t)
   unfolding replied
   onwards-replied b next y t e n q = q ∙ ap₂ (put-down at s a) n e
@@ -33,14 +33,14 @@ module _ (at : ℕ) (s a : List ℕ) where
   -- ---- with the memory, which a reply leaves
 
   module _ (v m : List ℕ) where
-    pub kept-told : (b : Transfer) (r : Reply plain) {s′ a′ : List ℕ} → kept s′ a′ ≡ replied at s a b r
+    pub laid-told : (b : Transfer) (r : Reply plain) {s′ a′ : List ℕ} → laid s′ a′ ≡ replied at s a b r
         → told v m s′ a′ ≡ told-by at s a (spoken-over b (keeping plain (store-of v m s) r))
     unfolding replied told-by settled
-    kept-told b r q = ap (λ (k : Kept). told v m (k .state) (k .answer)) q
+    laid-told b r q = ap (λ (k : Laid). told v m (k .state) (k .answer)) q
 
-    pub over-told : (b : Transfer) (t : Answer Key) {s′ a′ bytes : List ℕ} → bytes ≡ answer-of t → kept s′ a′ ≡ put-down at s a zero-record bytes
+    pub over-told : (b : Transfer) (t : Answer Key) {s′ a′ bytes : List ℕ} → bytes ≡ answer-of t → laid s′ a′ ≡ put-down at s a zero-record bytes
         → told v m s′ a′ ≡ told-by at s a (spoken-over b (keeping plain (store-of v m s) (over plain t)))
-    over-told b t e q = kept-told b (over plain t) (over-replied b t e q)
+    over-told b t e q = laid-told b (over plain t) (over-replied b t e q)
 
     -- ---- a message by what it asks
 

@@ -35,8 +35,8 @@ use Rattle.transfer.specs.Turns.{is-writing, opened-record, grown}
 use Rattle.transfer.proofs.RecordLaws.{view-writing, no-writing, held-fits, sent-length, lay-writing, lay-begun}
 use Rattle.state.specs.State.{record-at, record-bytes, fresh-state, settled}
 use Rattle.line.specs.Gauge.{bag552, plain, store-of}
-use Rattle.line.specs.Serving.{Kept, kept, put-down, misfit-code, replied, Told, told, told-by, spoken-over, Writable}
-use Rattle.line.proofs.Told.{over-replied, onwards-replied, kept-told, over-told}
+use Rattle.line.specs.Serving.{Laid, laid, put-down, misfit-code, replied, Told, told, told-by, spoken-over, Writable}
+use Rattle.line.proofs.Told.{over-replied, onwards-replied, laid-told, over-told}
 
 -- ---- a length judged
 
@@ -128,14 +128,14 @@ module _ (at : ℕ) (v b s a : List ℕ) (row : ℕ) where
     restarts (declined c) q i z = let z : _≡_ {A = ℕ} 0 1 = cc (ap (λ (l : Left). l .ending) q) in absurd (omega arith)
 
     refuses : (o : Outcome Memory) (code : ℕ) {k : Key} {a′ : List ℕ} → left e v′ b′ ≡ left-by (memory-of v b) o → e ≡ Refused code → k ≡ key-at row
-        → kept s′ a′ ≡ put-down at s a zero-record (answer-of (refused k code)) → told v′ b′ s′ a′ ≡ concluded (with-trips (store-of v b s) o)
+        → laid s′ a′ ≡ put-down at s a zero-record (answer-of (refused k code)) → told v′ b′ s′ a′ ≡ concluded (with-trips (store-of v b s) o)
     unfolding told-by settled conclude with-trips left-by lay put-down
     refuses (stored n) code q i key z = let z : _≡_ {A = ℕ} 0 1 = cc (ap (λ (l : Left). l .ending) q) in absurd (omega arith)
     refuses (restarted n) code q i key z = let z : _≡_ {A = ℕ} 0 1 = cc (ap (λ (l : Left). l .ending) q) in absurd (omega arith)
     refuses (declined c) code {k} {a′} q i key z =
         let same : code ≡ c = cc (ap (λ (l : Left). l .ending) q) in
         ap₂ (λ (x y : List ℕ). told x y s′ a′) (ap (λ (l : Left). l .values) q) (ap (λ (l : Left). l .block) q)
-        ∙ ap (λ (k : Kept). told v b (k .state) (k .answer)) (z ∙ ap₂ (λ (j : Key) (n : ℕ). put-down at s a zero-record (answer-of (refused j n))) key same)
+        ∙ ap (λ (k : Laid). told v b (k .state) (k .answer)) (z ∙ ap₂ (λ (j : Key) (n : ℕ). put-down at s a zero-record (answer-of (refused j n))) key same)
 
     module _ (w : Writable row) (bytes : List ℕ) (q : left e v′ b′ ≡ left-by (memory-of v b) (commit-row row bytes (memory-of v b))) where
       pub accepted-told : e ≡ Accepted → s′ ≡ splice s at (record-bytes zero-record) → told v′ b′ s′ a ≡ concluded (plain .commit (store-of v b s) (key-at row) bytes)
@@ -144,7 +144,7 @@ module _ (at : ℕ) (v b s a : List ℕ) (row : ℕ) where
       pub restarted-told : e ≡ Restarted → s′ ≡ fresh-state s → told v′ b′ s′ a ≡ concluded (plain .commit (store-of v b s) (key-at row) bytes)
       restarted-told i z = restarts (commit-row row bytes (memory-of v b)) q i z ∙ by-row w bytes
 
-      pub refused-told : (code : ℕ) {k : Key} {a′ : List ℕ} → e ≡ Refused code → k ≡ key-at row → kept s′ a′ ≡ put-down at s a zero-record (answer-of (refused k code))
+      pub refused-told : (code : ℕ) {k : Key} {a′ : List ℕ} → e ≡ Refused code → k ≡ key-at row → laid s′ a′ ≡ put-down at s a zero-record (answer-of (refused k code))
           → told v′ b′ s′ a′ ≡ concluded (plain .commit (store-of v b s) (key-at row) bytes)
       refused-told code i key z = refuses (commit-row row bytes (memory-of v b)) code q i key z ∙ by-row w bytes
 
@@ -177,7 +177,7 @@ module _ (at : ℕ) (v b s a : List ℕ) where
     abbrev outcome-told : Outcome Store → Told
     outcome-told o = told-by at s a (spoken-over zero-record (conclude plain (store-of v b s) k (write-opened k) o))
 
-    declined-told : (code : ℕ) {s′ a′ : List ℕ} → kept s′ a′ ≡ put-down at s a zero-record (answer-of (refused k code)) → told v b s′ a′ ≡ outcome-told (declined code)
+    declined-told : (code : ℕ) {s′ a′ : List ℕ} → laid s′ a′ ≡ put-down at s a zero-record (answer-of (refused k code)) → told v b s′ a′ ≡ outcome-told (declined code)
     unfolding conclude
     declined-told code q = over-told at s a v b zero-record (refused k code) refl q
 
@@ -185,7 +185,7 @@ module _ (at : ℕ) (v b s a : List ℕ) where
       abbrev sized : Outcome Store
       sized = judged-by plain (store-of v b s) k (announced n) bytes (narrowed low high (announced n))
 
-      pub sized-refused : {s′ a′ : List ℕ} → fits ≡ false → kept s′ a′ ≡ put-down at s a zero-record (answer-of (refused k (misfit-code high n))) → told v b s′ a′ ≡ outcome-told sized
+      pub sized-refused : {s′ a′ : List ℕ} → fits ≡ false → laid s′ a′ ≡ put-down at s a zero-record (answer-of (refused k (misfit-code high n))) → told v b s′ a′ ≡ outcome-told sized
       unfolding narrowed judged-by
       sized-refused d q = declined-told (misfit-code high n) q ∙ ap (λ (z : Sizes). outcome-told (judged-by plain (store-of v b s) k (announced n) bytes z)) (sym (by-misfit low high n f closed (sizes n n) d))
 
@@ -201,7 +201,7 @@ module _ (at : ℕ) (v b s a : List ℕ) where
     abbrev own-length : ℕ → Outcome Store
     own-length high = judged-by plain (store-of v b s) k own bytes (sizes high high)
 
-    pub own-refused : (high : ℕ) {count : ℕ} {s′ a′ : List ℕ} → length bytes ≡ count → count < high → kept s′ a′ ≡ put-down at s a zero-record (answer-of (refused k too-short)) → told v b s′ a′ ≡ outcome-told (own-length high)
+    pub own-refused : (high : ℕ) {count : ℕ} {s′ a′ : List ℕ} → length bytes ≡ count → count < high → laid s′ a′ ≡ put-down at s a zero-record (answer-of (refused k too-short)) → told v b s′ a′ ≡ outcome-told (own-length high)
     unfolding judged-by judged counted by-length
     own-refused high {count} l h q =
         let m : length (take high bytes) ≡ count = rw length-take (omega arith) in
@@ -231,7 +231,7 @@ module _ (at : ℕ) (v b s a : List ℕ) where
     unfolding judged
     all-judged = ap (λ (n : ℕ). by-length (t .len) (t .len) n declined (plain .commit (store-of v b s) (key-at (t .row)) all)) (sym (sent-length t bytes inside ∙ ap (λ (n : ℕ). t .place + n) long))
 
-    pub last-refused : {k : Key} {s′ a′ : List ℕ} → k ≡ key-at (t .row) → fits ≡ false → kept s′ a′ ≡ put-down at s a zero-record (answer-of (refused k (misfit-code (t .len) (t .place + count)))) → told v b s′ a′ ≡ last-part
+    pub last-refused : {k : Key} {s′ a′ : List ℕ} → k ≡ key-at (t .row) → fits ≡ false → laid s′ a′ ≡ put-down at s a zero-record (answer-of (refused k (misfit-code (t .len) (t .place + count)))) → told v b s′ a′ ≡ last-part
     unfolding take-part conclude
     last-refused key d q =
         over-told at s a v b t (refused (key-at (t .row)) (misfit-code (t .len) (t .place + count))) (ap (λ (k : Key). answer-of (refused k (misfit-code (t .len) (t .place + count)))) key) q
@@ -257,21 +257,21 @@ module _ (at : ℕ) (s a : List ℕ) where
     sent-count : length (take (t .place) (t .held) ++ bytes) ≡ t .place + count
     sent-count = sent-length t bytes inside ∙ ap (λ (n : ℕ). t .place + n) long
 
-    pub more-refused : {k : Key} {x : Kept} → k ≡ key-at (t .row) → t .len < t .place + count → x ≡ put-down at s a zero-record (answer-of (refused k too-long)) → x ≡ replied at s a t more
+    pub more-refused : {k : Key} {x : Laid} → k ≡ key-at (t .row) → t .len < t .place + count → x ≡ put-down at s a zero-record (answer-of (refused k too-long)) → x ≡ replied at s a t more
     unfolding take-more
     more-refused {k} {x} key h q =
         rw (sent-count, lt-ltb (t .len) (t .place + count) h)
         (over-replied at s a t (refused (key-at (t .row)) too-long) (ap (λ (k : Key). answer-of (refused k too-long)) key) q)
 
     pub more-taken : {s′ a′ eight : List ℕ} → t .place + count ≤ t .len → s′ ≡ splice s at (record-bytes (grown t bytes)) → a′ ≡ splice a 0 eight → eight ≡ answer-of (part-taken (t .toggle))
-        → kept s′ a′ ≡ replied at s a t more
+        → laid s′ a′ ≡ replied at s a t more
     unfolding take-more put-down
     more-taken h p r e =
         rw (le-ltb (t .len) (length (take (t .place) (t .held) ++ bytes)) (omega (arith, sent-count)))
-        (onwards-replied at s a t (grown t bytes) _ (part-taken (t .toggle)) e (sym (lay-writing t bytes inside (t .len))) (ap₂ kept p r))
+        (onwards-replied at s a t (grown t bytes) _ (part-taken (t .toggle)) e (sym (lay-writing t bytes inside (t .len))) (ap₂ laid p r))
 
   module _ (k : Key) (row : ℕ) where
-    pub parts-opened : (len : ℕ) {next : Transfer} {x : Kept} {eight : List ℕ} → next ≡ opened-record Writes row (replicate 64 0) len → eight ≡ answer-of (write-opened k)
+    pub parts-opened : (len : ℕ) {next : Transfer} {x : Laid} {eight : List ℕ} → next ≡ opened-record Writes row (replicate 64 0) len → eight ≡ answer-of (write-opened k)
         → x ≡ put-down at s a next eight → x ≡ replied at s a (zero-record-at row) (write-opening plain k [] (sizes len len))
     unfolding write-opening take-more
     parts-opened len n e q =
@@ -289,14 +289,14 @@ module _ (at : ℕ) (s a : List ℕ) where
         go false = refl
 
     module _ (low high n : ℕ) {fits : Bool} (f : fits ≡ by-length low high n (λ c. false) true) where
-      pub announced-refused : {x : Kept} → fits ≡ false → x ≡ put-down at s a zero-record (answer-of (refused k (misfit-code high n)))
+      pub announced-refused : {x : Laid} → fits ≡ false → x ≡ put-down at s a zero-record (answer-of (refused k (misfit-code high n)))
           → x ≡ replied at s a (zero-record-at row) (write-opening plain k [] (narrowed low high (announced n)))
       unfolding write-opening narrowed
       announced-refused d q =
           over-replied at s a (zero-record-at row) (refused k (misfit-code high n)) refl q
           ∙ ap (λ (z : Sizes). replied at s a (zero-record-at row) (write-opening plain k [] z)) (sym (by-misfit low high n f closed (sizes n n) d))
 
-      pub announced-right : {x : Kept} → fits ≡ true → x ≡ replied at s a (zero-record-at row) (write-opening plain k [] (sizes n n))
+      pub announced-right : {x : Laid} → fits ≡ true → x ≡ replied at s a (zero-record-at row) (write-opening plain k [] (sizes n n))
           → x ≡ replied at s a (zero-record-at row) (write-opening plain k [] (narrowed low high (announced n)))
       unfolding narrowed
       announced-right z q =
@@ -324,18 +324,18 @@ module _ (at : ℕ) (v b s a : List ℕ) (t : Transfer) (u : Bool) (bytes : List
       sent-last r l q = seen (rw (r, l) q)
 
       pub sent-more : {s′ a′ : List ℕ} → Bool·beq (t .toggle) u ≡ true → last ≡ false
-          → kept s′ a′ ≡ replied at s a t (take-more plain (key-at (t .row)) (t .len) (t .len) (take (t .place) (t .held) ++ bytes) (not (t .toggle)) (part-taken (t .toggle)))
+          → laid s′ a′ ≡ replied at s a t (take-more plain (key-at (t .row)) (t .len) (t .len) (take (t .place) (t .held) ++ bytes) (not (t .toggle)) (part-taken (t .toggle)))
           → told v b s′ a′ ≡ sent (record-at s at)
       unfolding write-part take-part
-      sent-more r l q = seen (rw (r, l) (kept-told at s a v b t _ q))
+      sent-more r l q = seen (rw (r, l) (laid-told at s a v b t _ q))
 
-      pub sent-wrong : {k : Key} {s′ a′ : List ℕ} → Bool·beq (t .toggle) u ≡ false → k ≡ key-at (t .row) → kept s′ a′ ≡ put-down at s a zero-record (answer-of (dropped k toggle-code))
+      pub sent-wrong : {k : Key} {s′ a′ : List ℕ} → Bool·beq (t .toggle) u ≡ false → k ≡ key-at (t .row) → laid s′ a′ ≡ put-down at s a zero-record (answer-of (dropped k toggle-code))
           → told v b s′ a′ ≡ sent (record-at s at)
       unfolding write-part
       sent-wrong r key q =
           seen (rw r (over-told at s a v b t (dropped (key-at (t .row)) toggle-code) (ap (λ (k : Key). answer-of (dropped k toggle-code)) key) q))
 
-    pub sent-none : {s′ a′ eight : List ℕ} → (is-writing (t .direction) && counts t) ≡ false → eight ≡ answer-of no-transfer → kept s′ a′ ≡ put-down at s a zero-record eight
+    pub sent-none : {s′ a′ eight : List ℕ} → (is-writing (t .direction) && counts t) ≡ false → eight ≡ answer-of no-transfer → laid s′ a′ ≡ put-down at s a zero-record eight
         → told v b s′ a′ ≡ sent (record-at s at)
     sent-none n e q =
         over-told at s a v b t no-transfer e q

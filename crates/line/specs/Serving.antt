@@ -7,7 +7,7 @@ use mathlib.Core.Path.{_≡_}
 use lib.ListN.{length}
 use Rattle.wire.specs.Splice.{splice}
 use Rattle.order.specs.Gauge.{too-long, too-short}
-use Rattle.order.specs.Serve.{Reply, Served, left}
+use Rattle.order.specs.Serve.{Reply, Served, remains}
 use Rattle.order.specs.Keep.{Spoken, is-wiped, speak}
 use Rattle.table.specs.Row.{RO}
 use Rattle.table.specs.Rows.{row-count, at-row}
@@ -19,19 +19,19 @@ use Rattle.line.specs.Gauge.{plain, store-of}
 
 -- ---- where the memory stays: the state, and the room for the answer
 
-pub record Kept : Type 0 where
+pub record Laid : Type 0 where
   pub state : List ℕ
   pub answer : List ℕ
 
-abbrev pub kept : List ℕ → List ℕ → Kept
-kept state answer = record { state = state; answer = answer }
+abbrev pub laid : List ℕ → List ℕ → Laid
+laid state answer = record { state = state; answer = answer }
 
 -- a line's next record at its place, and the answer's bytes at the head of the room
-unfoldable pub put-down : ℕ → List ℕ → List ℕ → Transfer → List ℕ → Kept
-put-down at state room next bytes = kept (splice state at (record-bytes next)) (splice room 0 bytes)
+unfoldable pub put-down : ℕ → List ℕ → List ℕ → Transfer → List ℕ → Laid
+put-down at state room next bytes = laid (splice state at (record-bytes next)) (splice room 0 bytes)
 
 -- a reply, its record laid over b
-unfoldable pub replied : ℕ → List ℕ → List ℕ → Transfer → Reply plain → Kept
+unfoldable pub replied : ℕ → List ℕ → List ℕ → Transfer → Reply plain → Laid
 unfolding put-down
 replied at state room b r = put-down at state room (lay b (r .next)) (answer-of (r .answer))
 
@@ -55,7 +55,7 @@ told-by at state room s = told (s .store .memory .values) (s .store .memory .blo
 
 -- a request served, its record laid over b
 abbrev pub spoken-over : Transfer → Served plain → Spoken plain transfers
-spoken-over b s = record { store = s .store; next = lay b (left (s .after)); reset = is-wiped (s .after); bytes = answer-of (s .answer) }
+spoken-over b s = record { store = s .store; next = lay b (remains (s .after)); reset = is-wiped (s .after); bytes = answer-of (s .answer) }
 
 -- a message m of the line whose record stands at a place
 abbrev pub message-told : ℕ → List ℕ → List ℕ → List ℕ → List ℕ → List ℕ → Told
@@ -65,7 +65,7 @@ message-told at m values block state room = told-by at state room (speak plain t
 
 pub record Room (at : ℕ) (state answer : List ℕ) : Type 0 where
   pub inside : at + record-size ≤ length state
-  pub eight : 8 ≤ length answer
+  pub long-enough : 8 ≤ length answer
 
 pub record Ready (at : ℕ) (values block state answer : List ℕ) : Type 0 where
   pub values-long : length values ≡ 1024

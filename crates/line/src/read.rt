@@ -21,12 +21,12 @@ ghost use Rattle.sdo.specs.Eight.{answer-of, eight};
 ghost use Rattle.transfer.specs.Records.{key-at, row-of, view, zero-record-at};
 ghost use Rattle.state.specs.State.{record-at};
 ghost use Rattle.line.specs.Gauge.{plain, store-of};
-ghost use Rattle.line.specs.Serving.{Room, kept, replied};
+ghost use Rattle.line.specs.Serving.{Room, laid, replied};
 
 // The next part of a read that counts.
 fn give_part(state: &mut [u8], at: usize, t: Transfer, room: &mut [u8])
     requires { ⌜ Room at (now state) (now room) × (t .len ≤ 64) × (t .place ≤ t .len) ⌝ }
-    ensures { λ _. ⌜ kept (now (state .exit)) (now (room .exit)) ≡ replied at (now (state .entry)) (now (room .entry)) t (give-part plain eight (key-at (t .row)) (take (t .len) (t .held)) (t .place) (t .toggle)) ⌝ }
+    ensures { λ _. ⌜ laid (now (state .exit)) (now (room .exit)) ≡ replied at (now (state .entry)) (now (room .entry)) t (give-part plain eight (key-at (t .row)) (take (t .len) (t .held)) (t .place) (t .toggle)) ⌝ }
 {
     let held = t.held;
     let len = t.len;
@@ -52,7 +52,7 @@ fn give_part(state: &mut [u8], at: usize, t: Transfer, room: &mut [u8])
 
 pub fn next_part(state: &mut [u8], at: usize, toggle: bool, room: &mut [u8])
     requires { ⌜ Room at (now state) (now room) ⌝ }
-    ensures { λ _. ⌜ kept (now (state .exit)) (now (room .exit)) ≡ replied at (now (state .entry)) (now (room .entry)) (record-at (now (state .entry)) at) (read-part plain eight (view (record-at (now (state .entry)) at)) toggle) ⌝ }
+    ensures { λ _. ⌜ laid (now (state .exit)) (now (room .exit)) ≡ replied at (now (state .entry)) (now (room .entry)) (record-at (now (state .entry)) at) (read-part plain eight (view (record-at (now (state .entry)) at)) toggle) ⌝ }
 {
     let t = state::record_at(state, at);
     let row = t.row;
@@ -93,7 +93,7 @@ fn open_row(
     room: &mut [u8],
 )
     requires { ⌜ (length (now values) ≡ 1024) × Room at (now state) (now room) × (row < row-count) × (k ≡ key-at row) × (shape ≡ row-shape (at-row row)) ⌝ }
-    ensures { λ _. ⌜ kept (now (state .exit)) (now (room .exit)) ≡ replied at (now (state .entry)) (now (room .entry)) (zero-record-at row) (read-opening plain eight k (value (value-of (at-row row) (now (values .entry))))) ⌝ }
+    ensures { λ _. ⌜ laid (now (state .exit)) (now (room .exit)) ≡ replied at (now (state .entry)) (now (room .entry)) (zero-record-at row) (read-opening plain eight k (value (value-of (at-row row) (now (values .entry))))) ⌝ }
 {
     let kind = find::field::kind_in(shape);
     let len = find::field::len_in(shape);
@@ -108,7 +108,7 @@ fn open_row(
 
 pub fn open_read(values: &[u8], state: &mut [u8], at: usize, k: Key, room: &mut [u8])
     requires { ⌜ (length (now values) ≡ 1024) × Room at (now state) (now room) ⌝ }
-    ensures { λ _. ⌜ kept (now (state .exit)) (now (room .exit)) ≡ replied at (now (state .entry)) (now (room .entry)) (zero-record-at (row-of k)) (read-opening plain eight k (read-whole (store-of (now (values .entry)) [] (now (state .entry))) (k .index) (k .sub))) ⌝ }
+    ensures { λ _. ⌜ laid (now (state .exit)) (now (room .exit)) ≡ replied at (now (state .entry)) (now (room .entry)) (zero-record-at (row-of k)) (read-opening plain eight k (read-whole (store-of (now (values .entry)) [] (now (state .entry))) (k .index) (k .sub))) ⌝ }
 {
     let gate = gate::to_read(k.index, k.sub);
     match gate {

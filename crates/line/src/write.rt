@@ -27,7 +27,7 @@ ghost use Rattle.sdo.specs.Eight.{heard-of};
 ghost use Rattle.transfer.specs.Records.{zero-record, zero-record-at, key-at, view};
 ghost use Rattle.state.specs.State.{record-at};
 ghost use Rattle.line.specs.Gauge.{plain, store-of};
-ghost use Rattle.line.specs.Serving.{Room, Ready, Writable, kept, replied, told, told-by, spoken-over, message-told};
+ghost use Rattle.line.specs.Serving.{Room, Ready, Writable, laid, replied, told, told-by, spoken-over, message-told};
 
 // May a value have the length that a client says or has sent, by the smallest and the largest?
 fn length_fits(low: usize, high: usize, n: usize) -> bool
@@ -75,7 +75,7 @@ fn take_more(
     room: &mut [u8],
 )
     requires { ⌜ Room at (now state) (now room) × (from + count ≤ length (now m)) × Writable (t .row) × Allowed (at-row (t .row)) (t .len) × (t .place ≤ t .len) × (t ≡ record-at (now state) at) ⌝ }
-    ensures { λ _. ⌜ kept (now (state .exit)) (now (room .exit)) ≡ replied at (now (state .entry)) (now (room .entry)) t (take-more plain (key-at (t .row)) (t .len) (t .len) (take (t .place) (t .held) ++ take count (drop from (now (m .entry)))) (not (t .toggle)) (part-taken (t .toggle))) ⌝ }
+    ensures { λ _. ⌜ laid (now (state .exit)) (now (room .exit)) ≡ replied at (now (state .entry)) (now (room .entry)) t (take-more plain (key-at (t .row)) (t .len) (t .len) (take (t .place) (t .held) ++ take count (drop from (now (m .entry)))) (not (t .toggle)) (part-taken (t .toggle))) ⌝ }
 {
     let row = t.row;
     let len = t.len;
@@ -156,7 +156,7 @@ pub fn send_part(
 // A write in parts, of the row's own length.
 fn open_parts(state: &mut [u8], at: usize, k: Key, row: usize, len: usize, room: &mut [u8])
     requires { ⌜ Room at (now state) (now room) × (len ≤ 64) ⌝ }
-    ensures { λ _. ⌜ kept (now (state .exit)) (now (room .exit)) ≡ replied at (now (state .entry)) (now (room .entry)) (zero-record-at row) (write-opening plain k [] (sizes len len)) ⌝ }
+    ensures { λ _. ⌜ laid (now (state .exit)) (now (room .exit)) ≡ replied at (now (state .entry)) (now (room .entry)) (zero-record-at row) (write-opening plain k [] (sizes len len)) ⌝ }
 {
     let next = transfer::opened(Direction::Writes, row, [0; 64], len);
     reply::going(state, at, next, room, answer::write_opened(k));
@@ -260,7 +260,7 @@ fn open_announced(
     room: &mut [u8],
 )
     requires { ⌜ Room at (now state) (now room) × (high ≤ 64) ⌝ }
-    ensures { λ _. ⌜ kept (now (state .exit)) (now (room .exit)) ≡ replied at (now (state .entry)) (now (room .entry)) (zero-record-at row) (write-opening plain k [] (narrowed low high (announced n))) ⌝ }
+    ensures { λ _. ⌜ laid (now (state .exit)) (now (room .exit)) ≡ replied at (now (state .entry)) (now (room .entry)) (zero-record-at row) (write-opening plain k [] (narrowed low high (announced n))) ⌝ }
 {
     let said = n as usize;
     if length_fits(low, high, said) {

@@ -11,7 +11,7 @@ use lib.ListN.{length, take, drop}
 use lib.Seq.{take-add, take-all}
 use Rattle.order.specs.Talk.{Request, open-read, next-part, expedited, open-write, send-part, give-up, unknown, Answer, part-given, write-opened, part-taken, dropped, Read, value, denied, Sizes, sizes, closed, Outcome, stored, restarted, declined, Pending, idle, reading, writing}
 use Rattle.order.specs.Gauge.{Gauge, say, judged, allowed, write-whole}
-use Rattle.order.specs.Serve.{Form, Wires, if-same, Setup, toggle-code, After, kept, wiped, left, Reply, over, onwards, read-opening, give-part, read-part, take-more, write-opening, Served, keeping, conclude, take-part, serve, Board, Event, message, sample, leave, step, trace}
+use Rattle.order.specs.Serve.{Form, Wires, if-same, Setup, toggle-code, After, kept, wiped, remains, Reply, over, onwards, read-opening, give-part, read-part, take-more, write-opening, Served, keeping, conclude, take-part, serve, Board, Event, message, sample, leave, step, trace}
 use Rattle.order.specs.Observe.{gain, if-yes, onward, follow}
 use Rattle.order.specs.Promise.{ends-write, is-abort, If-same, Spares, Right, count, Calm, Ends}
 use Rattle.order.proofs.Serial.{by-cond, own-line}
@@ -185,7 +185,7 @@ module _ (S : Setup) (l : S .wires .Line) (k : S .gauge .Key) (bytes : List ℕ)
           ))
           (λ ed es′.
           let q : p + n < length bytes = nleb→lt (length bytes) (p + n) (subst (λ (y : Bool). T (not y)) (sym ed) tt) in
-          let x′ : W .at (b′ .lines) l ≡ reading k bytes (p + n) (not t) = ap (W .at (b′ .lines)) e ∙ own-line S (b .lines) m (s .after) ∙ ap (λ (y : Served P). left (y .after)) es′ in
+          let x′ : W .at (b′ .lines) l ≡ reading k bytes (p + n) (not t) = ap (W .at (b′ .lines)) e ∙ own-line S (b .lines) m (s .after) ∙ ap (λ (y : Served P). remains (y .after)) es′ in
           let i : Ends S l bytes (p + n) b′ es = ih (p + n) (not t) x′ q r′ in
           let on : onward (gain a (s .answer)) (take p bytes) f ≡ f (take (p + n) bytes) = tell-is _ ea (ap (λ (y : Served P). y .answer) es′) ∙ ap f (sym (take-add p n bytes)) in
           ((λ z. on ∙ i .at-last (omega arith)), λ z. on ∙ i .not-before (omega arith)))

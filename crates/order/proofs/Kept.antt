@@ -8,7 +8,7 @@ use lib.Dec.{T}
 use lib.ListN.{length, take}
 use Rattle.order.specs.Talk.{Request, open-read, Answer, Read, value, Pending, idle, reading}
 use Rattle.order.specs.Gauge.{Gauge}
-use Rattle.order.specs.Serve.{Form, Speech, if-same, put-at, Setup, After, kept, wiped, left, Reply, read-opening, Served, serve, Board, served-on, leave, step, trace}
+use Rattle.order.specs.Serve.{Form, Speech, if-same, put-at, Setup, After, kept, wiped, remains, Reply, read-opening, Served, serve, Board, served-on, leave, step, trace}
 use Rattle.order.specs.Observe.{Pairs, follow}
 use Rattle.order.specs.Promise.{ends-write, is-abort, Spares, start, Right, Calm, Ends}
 use Rattle.order.specs.Bytes.{Call, heard, sensed, meant, call, talk, reads, after-all, SerialBytes, Clear}
@@ -52,7 +52,7 @@ module _ (S : Setup) (R : Keeping (S .gauge .Key)) {Good : S .gauge .Store → T
   shows-start g ok = record { same-store = refl; same-lines = λ l. K .empty-idle ∙ sym (S .wires .at-clear l); good = ok; whole = λ l. K .empty-whole }
 
   -- after a message of line l, which leaves t there, each record stands for what its line holds
-  lines-after : (rs : S .wires .Line → R .Record) (ls : S .wires .Lines) (l n : S .wires .Line) (t : R .Record) (a : After (P .Key)) → R .view t ≡ left a
+  lines-after : (rs : S .wires .Line → R .Record) (ls : S .wires .Lines) (l n : S .wires .Line) (t : R .Record) (a : After (P .Key)) → R .view t ≡ remains a
       → R .view (rs n) ≡ S .wires .at ls n → R .view (cond (is-wiped a) (λ m. R .empty) (put-at (S .wires .same) rs l t) n) ≡ S .wires .at (leave S ls l a) n
   unfolding put-at
   lines-after rs ls l n t wiped e h = K .empty-idle ∙ sym (S .wires .at-clear n)
@@ -107,7 +107,7 @@ module _ (S : Setup) (R : Keeping (S .gauge .Key)) {Good : S .gauge .Store → T
       s = on-record P R (S .speech l) (b .store) (b .records l) m
 
       t′ : R .Record
-      t′ = R .lay (b .records l) (S .speech l .ask m) (left (s .after))
+      t′ = R .lay (b .records l) (S .speech l .ask m) (remains (s .after))
 
       again : Again S R Good Whole l (b .store) (b .records l) m
       again = K .again l (b .store) (b .records l) m (w .good) (w .whole l)
@@ -187,7 +187,7 @@ module _ (S : Setup) (R : Keeping (S .gauge .Key)) {Good : S .gauge .Store → T
       unfolding call step serve
       line-reads =
           own-line S (d .lines) l ((served-on S d l (S .speech l .ask m)) .after)
-          ∙ ap (λ (a : Request (P .Key)). left ((served-on S d l a) .after)) opens
+          ∙ ap (λ (a : Request (P .Key)). remains ((served-on S d l a) .after)) opens
           ∙ ap (λ (r : Read). (read-opening P F k r) .next) (ap (λ (g : P .Store). P .read-whole g k) (sym (w .same-store)) ∙ holds)
           ∙ open-long F k bytes long
 

@@ -11,7 +11,7 @@ use lib.ListN.{length, take}
 use lib.Seq.{take-add, take-all}
 use Rattle.order.specs.Talk.{Said, Request, open-read, next-part, expedited, open-write, send-part, give-up, unknown, Answer, write-opened, part-taken, dropped, Read, value, denied, Sizes, sizes, closed, Outcome, stored, restarted, declined, Pending, idle, reading, writing, gave, yes! }
 use Rattle.order.specs.Gauge.{Gauge, too-long, counted, say, judged, judged-by, allowed, write-whole, Op, read, write, read-result, write-result, written, result, after, results, end-of}
-use Rattle.order.specs.Serve.{Form, Wires, if-same, put-at, Setup, toggle-code, After, kept, wiped, left, Reply, over, read-opening, give-part, read-part, take-more, write-opening, Served, keeping, conclude, take-part, write-part, serve, Board, Event, message, sample, leave, step, trace, run}
+use Rattle.order.specs.Serve.{Form, Wires, if-same, put-at, Setup, toggle-code, After, kept, wiped, remains, Reply, over, read-opening, give-part, read-part, take-more, write-opening, Served, keeping, conclude, take-part, write-part, serve, Board, Event, message, sample, leave, step, trace, run}
 use Rattle.order.specs.Observe.{Seen, nothing, sending, gain, ended, ended-early, if-yes, noted, note, onward, Done, read-done, part-done, finished, placed, Seens, follow, observe, fresh}
 use Rattle.order.specs.Promise.{ops-of, got-of, start, done-in, Serial}
 
@@ -48,7 +48,7 @@ module _ (P : Gauge) where
   own-next form (writing k low high sent t) u f = λ q acc. refl
 
   own-ahead : (form : Form) (g : P .Store) (x : Pending (P .Key)) (a : Request (P .Key)) (f : List ℕ → Option (List ℕ))
-      → Ahead (left ((serve P form g x a) .after)) f → Ahead x (λ acc. onward (gain a ((serve P form g x a) .answer)) acc f)
+      → Ahead (remains ((serve P form g x a) .after)) f → Ahead x (λ acc. onward (gain a ((serve P form g x a) .answer)) acc f)
   unfolding serve onward gain
   own-ahead form g x (open-read k) f q = dead x (λ acc. none) (λ acc. refl)
   own-ahead form g x (next-part u) f q = own-next form x u f q
@@ -72,7 +72,7 @@ module _ (P : Gauge) where
 
   -- what is known after a message: the place, and what is left
   abbrev Fine : P .Store → Seen (P .Key) → Option (Done P) → Served P → Type 0
-  Fine g o d s = Next g d (s .store) × Tracks (left (s .after)) o
+  Fine g o d s = Next g d (s .store) × Tracks (remains (s .after)) o
 
   counted-say : (n : Option ℕ) (high : ℕ) (bytes : List ℕ) → counted (say n) high bytes ≡ bytes
   unfolding counted
@@ -177,7 +177,7 @@ module _ (P : Gauge) where
 
   -- ONE MESSAGE: the place holds what the plain gauge gives there, and what the client remembers fits what is left
   fine : (form : Form) (g : P .Store) (x : Pending (P .Key)) (o : Seen (P .Key)) (a : Request (P .Key)) (f : List ℕ → Option (List ℕ)) → Tracks x o
-      → Ahead (left ((serve P form g x a) .after)) f
+      → Ahead (remains ((serve P form g x a) .after)) f
       → Fine g (note o a ((serve P form g x a) .answer)) (finished P o a ((serve P form g x a) .answer) f) (serve P form g x a)
   unfolding serve note finished
   fine form g x o (open-read k) f h q = fine-read-opening form g k f (P .read-whole g k) refl q
@@ -232,7 +232,7 @@ module _ (S : Setup) where
   W = S .wires
 
   -- after a message on l: line l has what is left, another line what it had or nothing
-  pub own-line : (ls : W .Lines) (l : W .Line) (a : After (P .Key)) → W .at (leave S ls l a) l ≡ left a
+  pub own-line : (ls : W .Lines) (l : W .Line) (a : After (P .Key)) → W .at (leave S ls l a) l ≡ remains a
   own-line ls l (kept x) = W .at-same ls l x
   own-line ls l wiped = W .at-clear l
 
@@ -277,7 +277,7 @@ module _ (S : Setup) where
   Inv : Board S → Seens S → Type 0
   Inv b os = (l : W .Line) → Tracks P (W .at (b .lines) l) (os l)
 
-  inv-message : (b : Board S) (os : Seens S) (l : W .Line) (g : P .Store) (a : After (P .Key)) (o : Seen (P .Key)) → Inv b os → Tracks P (left a) o
+  inv-message : (b : Board S) (os : Seens S) (l : W .Line) (g : P .Store) (a : After (P .Key)) (o : Seen (P .Key)) → Inv b os → Tracks P (remains a) o
       → Inv (record { store = g; lines = leave S (b .lines) l a }) (put-at (W .same) os l o)
   unfolding Inv put-at
   inv-message b os l g a o h q m = go (W .same m l)

@@ -8,7 +8,7 @@ use mathlib.Core.Option.{Option, none, some}
 use lib.ListN.{length, take}
 use Rattle.order.specs.Talk.{Request, Pending, idle}
 use Rattle.order.specs.Gauge.{Gauge, results, end-of}
-use Rattle.order.specs.Serve.{Speech, put-at, Setup, After, kept, wiped, left, Served, serve}
+use Rattle.order.specs.Serve.{Speech, put-at, Setup, After, kept, wiped, remains, Served, serve}
 use Rattle.order.specs.Observe.{Done, follow}
 use Rattle.order.specs.Promise.{ops-of, got-of, Right, count}
 use Rattle.order.specs.Bytes.{Call, heard, sensed, meant, reads, client}
@@ -35,7 +35,7 @@ module _ (P : Gauge) (R : Keeping (P .Key)) where
     pub bytes : List ℕ
 
   abbrev pub spoken : Speech (P .Key) (P .Name) → R .Record → List ℕ → Served P → Spoken
-  spoken H t m s = record { store = s .store; next = R .lay t (H .ask m) (left (s .after)); reset = is-wiped (s .after); bytes = H .answer m (s .answer) }
+  spoken H t m s = record { store = s .store; next = R .lay t (H .ask m) (remains (s .after)); reset = is-wiped (s .after); bytes = H .answer m (s .answer) }
 
   -- ONE MESSAGE on a line with record t
   unfoldable pub speak : Speech (P .Key) (P .Name) → P .Store → R .Record → List ℕ → Spoken
@@ -111,7 +111,7 @@ module _ (S : Setup) (R : Keeping (S .gauge .Key)) where
     pub record Again (l : S .wires .Line) (g : S .gauge .Store) (t : R .Record) (m : List ℕ) : Type 0 where
       pub good : Good ((speak (S .gauge) R (S .speech l) g t m) .store)
       pub whole : Whole ((speak (S .gauge) R (S .speech l) g t m) .next)
-      pub seen : R .view ((speak (S .gauge) R (S .speech l) g t m) .next) ≡ left ((serve (S .gauge) (S .speech l .form) g (R .view t) (S .speech l .ask m)) .after)
+      pub seen : R .view ((speak (S .gauge) R (S .speech l) g t m) .next) ≡ remains ((serve (S .gauge) (S .speech l .form) g (R .view t) (S .speech l .ask m)) .after)
 
     pub record Keeps : Type 0 where
       pub empty-whole : Whole (R .empty)

@@ -93,9 +93,9 @@ pub data After (K : Type 0) : Type 0 where
   kept : Pending K → After K
   wiped : After K
 
-abbrev pub left : {K : Type 0} → After K → Pending K
-left (kept x) = x
-left wiped = idle
+abbrev pub remains : {K : Type 0} → After K → Pending K
+remains (kept x) = x
+remains wiped = idle
 
 module _ (P : Gauge) where
   -- a reply: what the line holds after it, and the answer. The store is not looked at

@@ -9,7 +9,7 @@ use lib.Dec.{T, ltb, leb, nleb→lt, nltb→le}
 use lib.ListN.{length, getD}
 use Rattle.order.specs.Talk.{Said, announced, unsaid, own, Request, open-read, next-part, expedited, open-write, send-part, give-up, unknown, Answer, write-opened, part-taken, dropped, Read, value, denied, Sizes, sizes, closed, Outcome, stored, restarted, declined, Pending, idle, reading, writing}
 use Rattle.order.specs.Gauge.{Gauge, too-long, too-short, narrow, counted, say, judged, judged-by, allowed, write-whole}
-use Rattle.order.specs.Serve.{Form, toggle-code, left, Reply, over, read-opening, give-part, read-part, take-more, write-opening, keeping, conclude, take-part, write-part, serve}
+use Rattle.order.specs.Serve.{Form, toggle-code, remains, Reply, over, read-opening, give-part, read-part, take-more, write-opening, keeping, conclude, take-part, write-part, serve}
 use Rattle.order.specs.Keep.{speak, Again, Keeps}
 use Rattle.order.proofs.Kept.{abort-drops}
 use Rattle.sdo.specs.declared.Key.{Key}
@@ -91,29 +91,29 @@ module _ (E : Entries) {Good : E .Store → Type 0} (R : Rows E Good) where
         valid-more (row-of k) k low high 0 bytes false (write-opened k) (h .0) (row-fits Writes k high 0 (h .1) (omega arith))
     valid-write-opening k bytes (closed c) h = tt
 
-    valid-conclude : (row : ℕ) (g : E .Store) (k : Key) (y : Answer Key) (r : Outcome (E .Store)) → Valid row (left ((conclude P g k y r) .after))
+    valid-conclude : (row : ℕ) (g : E .Store) (k : Key) (y : Answer Key) (r : Outcome (E .Store)) → Valid row (remains ((conclude P g k y r) .after))
     unfolding conclude
     valid-conclude row g k y (stored g′) = tt
     valid-conclude row g k y (restarted g′) = tt
     valid-conclude row g k y (declined c) = tt
 
     valid-part : (row : ℕ) (g : E .Store) (k : Key) (low high n : ℕ) (all : List ℕ) (t last : Bool) (y : Answer Key) → low ≡ high → Fits Writes row k high n
-        → Valid row (left ((take-part P g k low high all t last y) .after))
+        → Valid row (remains ((take-part P g k low high all t last y) .after))
     unfolding take-part
     valid-part row g k low high n all t true y e f = valid-conclude row g k y (judged P g k low high all)
     valid-part row g k low high n all t false y e f = valid-more row k low high n all t y e f
 
-    valid-write-part : (row : ℕ) (g : E .Store) (x : Pending Key) (u : Bool) (bytes : List ℕ) (last : Bool) → Valid row x → Valid row (left ((write-part P g x u bytes last) .after))
+    valid-write-part : (row : ℕ) (g : E .Store) (x : Pending Key) (u : Bool) (bytes : List ℕ) (last : Bool) → Valid row x → Valid row (remains ((write-part P g x u bytes last) .after))
     unfolding write-part
     valid-write-part row g idle u bytes last v = tt
     valid-write-part row g (reading k held place t) u bytes last v = tt
     valid-write-part row g (writing k low high sent t) u bytes last v = go (Bool·beq t u)
       where
-        go : (d : Bool) → Valid row (left ((cond d (take-part P g k low high (sent ++ bytes) (not t) last (part-taken t)) (keeping P g (over P (dropped k toggle-code)))) .after))
+        go : (d : Bool) → Valid row (remains ((cond d (take-part P g k low high (sent ++ bytes) (not t) last (part-taken t)) (keeping P g (over P (dropped k toggle-code)))) .after))
         go true = valid-part row g k low high (length sent) (sent ++ bytes) (not t) last (part-taken t) (v .0) (v .1)
         go false = tt
 
-    valid-serve : (g : E .Store) (t : Transfer) (x : Pending Key) (a : Request Key) → Good g → Valid (t .row) x → Valid ((base t a) .row) (left ((serve P F g x a) .after))
+    valid-serve : (g : E .Store) (t : Transfer) (x : Pending Key) (a : Request Key) → Good g → Valid (t .row) x → Valid ((base t a) .row) (remains ((serve P F g x a) .after))
     unfolding serve base
     valid-serve g t x (open-read k) ok v = valid-read-opening g k (E .read-whole g k) ok refl
     valid-serve g t x (next-part u) ok v = valid-read-part (t .row) x u v
@@ -180,7 +180,7 @@ module _ (E : Entries) {Good : E .Store → Type 0} (R : Rows E Good) where
   -- ---- one message on a line
 
   module _ (g : E .Store) (ok : Good g) (t : Transfer) (m : List ℕ) (w : Whole t) where
-    leaves : Valid ((base t (ask-of m)) .row) (left ((serve P eight g (view t) (ask-of m)) .after))
+    leaves : Valid ((base t (ask-of m)) .row) (remains ((serve P eight g (view t) (ask-of m)) .after))
     leaves = valid-serve eight g t (view t) (ask-of m) ok (valid-view t w)
 
     -- THEOREM: every message leaves its line's record a transfer that counts, or all zero; a record that counts as none is so cleared
