@@ -1,8 +1,8 @@
 -- THE BOARD'S GAUGE MEETS WHAT DEMAND 3 ASKS: its codes, its lengths, its rows; and so demand 3 for the board with its records by value.
 use Prim.Native.Nat.{ℕ, _%_, _≤_, _<_}
 use native.Mathlib.Omega.{arith}
-use mathlib.Core.Path.{_≡_, refl, subst, sym, _∙_}
-use mathlib.Core.Bool.{Bool, true, false, cond}
+use mathlib.Core.Path.{_≡_, refl, ap, subst, sym, _∙_}
+use mathlib.Core.Bool.{Bool, true, false, cond, not}
 use mathlib.Core.List.{List}
 use mathlib.Core.Option.{Option, none, some}
 use lib.Dec.{eqb}
@@ -172,27 +172,13 @@ sound =
 
 -- ---- rows
 
-readable : (a : ℕ) → 1 ≤ a → a ≤ 3 → (a ≡ WO → ⊥) → allows Reads a ≡ true
-unfolding allows
-readable a h k n = eq-eqb (a % 2) 1 (odd a h k n)
-  where
-    odd : (a : ℕ) → 1 ≤ a → a ≤ 3 → (a ≡ 2 → ⊥) → a % 2 ≡ 1
-    odd a h k n = omega arith
-
-writable : (a : ℕ) → 1 ≤ a → (a ≡ RO → ⊥) → allows Writes a ≡ true
-unfolding allows
-writable a h n = le-leb 2 a (two a h n)
-  where
-    two : (a : ℕ) → 1 ≤ a → (a ≡ 1 → ⊥) → 2 ≤ a
-    two a h n = omega arith
-
 module _ (k : Key) where
   ReadRow : Read → Type 0
   ReadRow (value bytes) = RowOf Reads k (length bytes)
   ReadRow (denied c) = Unit {0}
 
   read-row : (f : Found) (values : List ℕ) → length values ≡ 1024 → find-row (k .index) (k .sub) ≡ f → ReadRow (read-through (read-gate f) values)
-  unfolding ReadRow read-through gate
+  unfolding ReadRow read-through gate allows
   read-row (At r) values n e = go (eqb (at-row r .access) WO) refl
     where
       there : r < row-count
@@ -204,7 +190,7 @@ module _ (k : Key) where
           record {
             row = r;
             found = e;
-            allowed = readable (at-row r .access) (row-rule r there .access-some) (row-rule r there .access-most) (eqb-false (at-row r .access) WO q);
+            allowed = ap not q;
             fitting-length = room-allowed (at-row r) (value-length r there values n);
           }
   read-row NoIndex values n e = tt
@@ -215,7 +201,7 @@ module _ (k : Key) where
   WriteRow (closed c) = Unit {0}
 
   write-row : (f : Found) → find-row (k .index) (k .sub) ≡ f → WriteRow (sizes-of (write-gate f))
-  unfolding WriteRow sizes-of gate smallest largest
+  unfolding WriteRow sizes-of gate smallest largest allows
   write-row (At r) e = go (eqb (at-row r .access) RO) refl
     where
       there : r < row-count
@@ -228,7 +214,7 @@ module _ (k : Key) where
         record {
           row = r;
           found = e;
-          allowed = writable (at-row r .access) (row-rule r there .access-some) (eqb-false (at-row r .access) RO q);
+          allowed = ap not q;
           fitting-length = room-allowed (at-row r) refl;
         },
       )

@@ -14,12 +14,12 @@ use Rattle.sdo.specs.Lines.{tool}
 use Rattle.line.specs.Gauge.{plain}
 use Rattle.demand3.specs.Firmware.{Exported, to-message, Back, back, history, observed, arrays-after, value-got, ReadOpened}
 use Rattle.demand3.specs.Open.{all-opened, observer-opened}
-use Rattle.demand3.specs.Conversation.{Case, on, asks, powered}
+use Rattle.demand3.specs.Conversation.{Case, on, asks, fresh-arrays}
 use Rattle.demand3.specs.Examples.{label-changed, case-J}
 use Rattle.demand3.specs.CoatingShop.{old-pair, new-pair, saved-before, read-across-load, story}
 
 abbrev seen-in : List Case → List (Done plain)
-seen-in cs = observed (history powered (map asks cs))
+seen-in cs = observed (history fresh-arrays (map asks cs))
 
 abbrev entry : ℕ → ℕ → Key
 entry index sub = record { index = index; sub = sub }
@@ -66,12 +66,12 @@ unseen =
     []
 
 pub unseen-numbers :
-    map (λ (p : Exported × Back). p .1) (history powered unseen)
+    map (λ (p : Exported × Back). p .1) (history fresh-arrays unseen)
     ≡ back 3 (replicate 8 0xEE) ∷ back 2 (replicate 7 0xEE) ∷ back 1 (replicate 8 0xEE) ∷ back 5 (replicate 8 0xEE) ∷ []
 unfolding unseen all-opened
 unseen-numbers = refl
 
-pub nothing-seen : observed (history powered unseen) ≡ []
+pub nothing-seen : observed (history fresh-arrays unseen) ≡ []
 unfolding unseen all-opened observer-opened
 nothing-seen = refl
 
@@ -89,7 +89,7 @@ label-parts =
 abbrev open-label : List ℕ
 open-label = 0x40 ∷ 0x01 ∷ 0x20 ∷ 0x00 ∷ 0x00 ∷ 0x00 ∷ 0x00 ∷ 0x00 ∷ []
 
-pub label-opened : ReadOpened powered 0 open-label (replicate 8 0) (replicate 32 0) (map asks label-parts)
+pub label-opened : ReadOpened fresh-arrays 0 open-label (replicate 8 0) (replicate 32 0) (map asks label-parts)
 unfolding label-parts all-opened observer-opened record-call
 label-opened =
     record {
@@ -103,6 +103,6 @@ label-opened =
     }
 
 -- exactly five parts: the value is had, and it is the label as it was at the opening
-pub label-finished : value-got tool (history (arrays-after powered 0 open-label (replicate 8 0)) (map asks label-parts)) ≡ some (replicate 32 0)
+pub label-finished : value-got tool (history (arrays-after fresh-arrays 0 open-label (replicate 8 0)) (map asks label-parts)) ≡ some (replicate 32 0)
 unfolding label-parts all-opened observer-opened
 label-finished = refl

@@ -12,16 +12,16 @@ use Rattle.board.specs.Calls.{Called, called, message-call}
 use Rattle.demand3.specs.Firmware.{Arrays, arrays, Back, back, exported, history, final}
 use Rattle.demand3.specs.Promised.{Given, Meets}
 use Rattle.demand3.specs.Open.{all-opened}
-use Rattle.demand3.specs.Conversation.{Case, on, shown, asks, powered, gives-from, left-by, label-read, label-write}
+use Rattle.demand3.specs.Conversation.{Case, on, padded, asks, fresh-arrays, gives-from, arrays-left, label-read, label-write}
 use Rattle.demand3.specs.Examples.{case-A, case-B, case-E, label-changed}
 use Rattle.demand3.specs.Refused.{eight-of, Aborts, Sends, Forgets, unheld, Fakes}
 
 -- a call of a conversation, and its first from power-up
 abbrev lent : Arrays → Case → Given
-lent a c = record { line = c .line; message = shown (c .message); values = a .values; block = a .block; state = a .state; room = replicate 8 0xEE }
+lent a c = record { line = c .line; message = padded (c .message); values = a .values; block = a .block; state = a .state; room = replicate 8 0xEE }
 
 abbrev first : List Case → Given
-first cs = lent powered (getD cs 0 (on 0 [] []))
+first cs = lent fresh-arrays (getD cs 0 (on 0 [] []))
 
 abbrev number-of : Called → ℕ
 number-of o = o .number
@@ -66,23 +66,23 @@ module _ (board : Given → Called) (forgets : Forgets board) (h : Meets board) 
 
 -- the first byte of the label that the next read on line 0 gets, given the values
 abbrev next-byte : List ℕ → ℕ
-next-byte values = getD ((getD (gives-from (arrays values (left-by label-changed .block) (left-by label-changed .state)) (label-read 0 0)) 1 (back 0 [])) .room) 1 0
+next-byte values = getD ((getD (gives-from (arrays values (arrays-left label-changed .block) (arrays-left label-changed .state)) (label-read 0 0)) 1 (back 0 [])) .room) 1 0
 
-next-changed : next-byte (left-by label-changed .values) ≡ 0x41
+next-changed : next-byte (arrays-left label-changed .values) ≡ 0x41
 unfolding label-changed all-opened
 next-changed = refl
 
-next-forgotten : next-byte (powered .values) ≡ 0
+next-forgotten : next-byte (fresh-arrays .values) ≡ 0
 unfolding label-changed all-opened
 next-forgotten = refl
 
-all-answered : map (λ (b : Back). b .number) (gives-from powered label-changed) ≡ map (λ (c : Case). 0) label-changed
+all-answered : map (λ (b : Back). b .number) (gives-from fresh-arrays label-changed) ≡ map (λ (c : Case). 0) label-changed
 unfolding label-changed all-opened
 all-answered = refl
 
 pub forgetful-refused : (board : Given → Called) → Forgets board → Meets board → ⊥
 forgetful-refused board forgets h =
-    no-letter (sym next-changed ∙ ap next-byte (kept-along board forgets h label-changed powered all-answered) ∙ next-forgotten)
+    no-letter (sym next-changed ∙ ap next-byte (kept-along board forgets h label-changed fresh-arrays all-answered) ∙ next-forgotten)
 
 -- ---- one that serves the opening and fakes the later parts: a label of zeros that was changed after the opening and one of 41s that was
 -- written before it are held in memories that are alike in all else, and have other first parts
@@ -94,7 +94,7 @@ opened-after : List Case
 opened-after = label-write 1 0x41 ++ take 1 (label-read 0 0x41)
 
 abbrev part-of : List Case → Given
-part-of cs = lent (left-by cs) (on 0 (0x60 ∷ []) [])
+part-of cs = lent (arrays-left cs) (on 0 (0x60 ∷ []) [])
 
 same-list : (xs ys : List ℕ) → same-bytes xs ys ≡ true → xs ≡ ys
 unfolding same-bytes
@@ -103,15 +103,15 @@ same-list [] (y ∷ ys) e = absurd (false≢true e)
 same-list (x ∷ xs) [] e = absurd (false≢true e)
 same-list (x ∷ xs) (y ∷ ys) e = let p = and-eq-true-iff (eqb x y) _ .0 e in ap₂ _∷_ (eqb-true x y (p .0)) (same-list xs ys (p .1))
 
-values-alike : same-bytes (left-by opened-after .values) (left-by opened-before .values) ≡ true
+values-alike : same-bytes (arrays-left opened-after .values) (arrays-left opened-before .values) ≡ true
 unfolding opened-before opened-after all-opened
 values-alike = refl
 
-block-alike : same-bytes (left-by opened-after .block) (left-by opened-before .block) ≡ true
+block-alike : same-bytes (arrays-left opened-after .block) (arrays-left opened-before .block) ≡ true
 unfolding opened-before opened-after all-opened
 block-alike = refl
 
-state-alike : same-bytes (drop 64 (left-by opened-after .state)) (drop 64 (left-by opened-before .state)) ≡ true
+state-alike : same-bytes (drop 64 (arrays-left opened-after .state)) (drop 64 (arrays-left opened-before .state)) ≡ true
 unfolding opened-before opened-after all-opened
 state-alike = refl
 

@@ -5,8 +5,8 @@ use lib.ListN.{length, take, drop, replicate}
 use Rattle.demand3.specs.Firmware.{Arrays, Exported, to-message, Back, back, history, final, power-on}
 
 -- eight bytes, with zeros for those that are not written out
-abbrev pub shown : List ℕ → List ℕ
-shown bytes = bytes ++ replicate (8 - length bytes) 0
+abbrev pub padded : List ℕ → List ℕ
+padded bytes = bytes ++ replicate (8 - length bytes) 0
 
 -- a message on a line, and its answer
 pub record Case : Type 0 where
@@ -19,28 +19,28 @@ on line m a = record { line = line; message = m; answer = a }
 
 -- the call, with just the room that an answer needs, and what it must give back
 abbrev pub asks : Case → Exported
-asks c = to-message (c .line) (shown (c .message)) (replicate 8 0xEE)
+asks c = to-message (c .line) (padded (c .message)) (replicate 8 0xEE)
 
 abbrev pub expects : Case → Back
-expects c = back 0 (shown (c .answer))
+expects c = back 0 (padded (c .answer))
 
 -- after power-up on values and state that held FF bytes (R9.3)
-abbrev pub powered : Arrays
-powered = power-on (replicate 1024 0xFF) (replicate 512 0) (replicate 256 0xFF)
+abbrev pub fresh-arrays : Arrays
+fresh-arrays = power-on (replicate 1024 0xFF) (replicate 512 0) (replicate 256 0xFF)
 
 -- what the board gives back, and what it must give back
 abbrev pub gives-from : Arrays → List Case → List Back
 gives-from a cs = map (λ (p : Exported × Back). p .1) (history a (map asks cs))
 
 abbrev pub gives : List Case → List Back
-gives cs = gives-from powered cs
+gives cs = gives-from fresh-arrays cs
 
 abbrev pub expected : List Case → List Back
 expected cs = map expects cs
 
 -- the arrays behind a conversation
-abbrev pub left-by : List Case → Arrays
-left-by cs = final powered (map asks cs)
+abbrev pub arrays-left : List Case → Arrays
+arrays-left cs = final fresh-arrays (map asks cs)
 
 -- ---- the card, read and written whole in five parts
 

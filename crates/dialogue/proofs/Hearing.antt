@@ -12,7 +12,7 @@ use borrow.Author.Tests.{ltb-true, ltb-false, leb-true, leb-false, ne-eqb, lt-lt
 use Rattle.wire.proofs.FlagLaws.{by-test}
 use Rattle.dialogue.specs.declared.Pending.{Pending}
 use Rattle.dialogue.specs.Text.{no-message, is-message, read, without-return, spoken}
-use Rattle.dialogue.specs.Lines.{lines, lines-from, nothing-yet, extended, after, pending-spoken, left-over, told}
+use Rattle.dialogue.specs.Lines.{lines, lines-from, nothing-yet, extended, after, pending-spoken, left-over, lines-heard}
 
 -- ---- a line of more than nineteen bytes is no message, whatever it is
 
@@ -90,8 +90,8 @@ module _ (text l : List ℕ) (n b : ℕ) (k : Holds text n l) where
 abbrev pending : List ℕ → ℕ → Bool → Pending
 pending text n e = record { text = text; count = n; ended = e }
 
-module _ (bs : List ℕ) (rest : (text l : List ℕ) (n : ℕ) (e : Bool) → Holds text (cond e 0 n) l → told (pending text n e) bs ≡ map spoken (lines-from l bs)) where
-  one-byte : (text l : List ℕ) (n b : ℕ) → Holds text n l → cond (extended text n b .ended) (pending-spoken (extended text n b) ∷ told (extended text n b) bs) (told (extended text n b) bs) ≡ map spoken (lines-from l (b ∷ bs))
+module _ (bs : List ℕ) (rest : (text l : List ℕ) (n : ℕ) (e : Bool) → Holds text (cond e 0 n) l → lines-heard (pending text n e) bs ≡ map spoken (lines-from l bs)) where
+  one-byte : (text l : List ℕ) (n b : ℕ) → Holds text n l → cond (extended text n b .ended) (pending-spoken (extended text n b) ∷ lines-heard (extended text n b) bs) (lines-heard (extended text n b) bs) ≡ map spoken (lines-from l (b ∷ bs))
   unfolding extended pending-spoken lines-from
   one-byte text l n b k =
       by-test (eqb b 10)
@@ -100,20 +100,20 @@ module _ (bs : List ℕ) (rest : (text l : List ℕ) (n : ℕ) (e : Bool) → Ho
       (λ f. rw f (rest (set text n b) (l ++ (b ∷ [])) (n + 1) false (holds-more text l n b k (ltb-true _ _ f))))
       (λ f. rw f (rest text (l ++ (b ∷ [])) n false (holds-full text l n b k (ltb-false _ _ f))))))
 
-no-more : (text l : List ℕ) (n : ℕ) (e : Bool) → Holds text (cond e 0 n) l → told (pending text n e) [] ≡ map spoken (lines-from l [])
-unfolding told left-over lines-from pending-spoken
+no-more : (text l : List ℕ) (n : ℕ) (e : Bool) → Holds text (cond e 0 n) l → lines-heard (pending text n e) [] ≡ map spoken (lines-from l [])
+unfolding lines-heard left-over lines-from pending-spoken
 no-more text l n true k = rw (le-ltb 0 (length l) (omega (arith, k .counted)))
 no-more text l n false k =
     by-test (ltb 0 (length l))
     (λ e. let h : 0 < length l = ltb-true _ _ e in rw (e, lt-ltb 0 n (omega (arith, k .counted)), holds-spoken text l n 0 k))
     (λ e. let h : length l ≤ 0 = ltb-false _ _ e in rw (e, le-ltb 0 n (omega (arith, k .counted))))
 
-heard-from : (bs text l : List ℕ) (n : ℕ) (e : Bool) → Holds text (cond e 0 n) l → told (pending text n e) bs ≡ map spoken (lines-from l bs)
-unfolding told after
+heard-from : (bs text l : List ℕ) (n : ℕ) (e : Bool) → Holds text (cond e 0 n) l → lines-heard (pending text n e) bs ≡ map spoken (lines-from l bs)
+unfolding lines-heard after
 heard-from [] text l n e k = no-more text l n e k
 heard-from (b ∷ bs) text l n e k = one-byte bs (heard-from bs) text l (cond e 0 n) b k
 
 -- whatever the input, what is told as its bytes come is what its lines say
-pub heard : (input : List ℕ) → told nothing-yet input ≡ map spoken (lines input)
+pub heard : (input : List ℕ) → lines-heard nothing-yet input ≡ map spoken (lines input)
 unfolding nothing-yet
 heard input = heard-from input (replicate 20 0) [] 0 false (holds-none (replicate 20 0) refl)

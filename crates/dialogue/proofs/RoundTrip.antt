@@ -10,7 +10,7 @@ use borrow.Author.Tests.{ltb-true, ltb-false, lt-ltb, le-ltb, le-leb, lt-leb, ne
 use Rattle.wire.proofs.LittleLaws.{Bytes}
 use Rattle.dialogue.specs.declared.Spoken.{Spoken}
 use Rattle.dialogue.specs.Text.{between, is-digit, digit-value, all-digits, pairs, is-message, a-message, read, spoken, capital, hex-text, message-text, answer-text}
-use Rattle.dialogue.specs.Lines.{lines-from, nothing-yet, told}
+use Rattle.dialogue.specs.Lines.{lines-from, nothing-yet, lines-heard}
 use Rattle.dialogue.proofs.Hearing.{heard}
 use Rattle.dialogue.proofs.TextLaws.{length-hex, return-absent}
 
@@ -109,6 +109,6 @@ module _ (n : ℕ) (bytes : List ℕ) (h : n < 2) (e : length bytes ≡ 8) (k : 
   message-high (suc (suc i)) i<18 = omega (arith, hex-high bytes i k (omega arith))
 
   -- and a line that is printed, given back as input, is that message and nothing else
-  pub printed-heard : told nothing-yet (answer-text n bytes) ≡ a-message n bytes ∷ []
+  pub printed-heard : lines-heard nothing-yet (answer-text n bytes) ≡ a-message n bytes ∷ []
   unfolding answer-text
   printed-heard = heard (message-text n bytes ++ (10 ∷ [])) ∙ ap (map spoken) (unbroken (message-text n bytes) [] message-high) ∙ ap (λ (s : Spoken). s ∷ []) printed-spoken

@@ -1,4 +1,4 @@
--- RULE: THE TEXT LINES OF AN INPUT (R17.1), and the same as the bytes come one by one: `told nothing-yet input` is
+-- RULE: THE TEXT LINES OF AN INPUT (R17.1), and the same as the bytes come one by one: `lines-heard nothing-yet input` is
 -- `map spoken (lines input)`, which is the theorem of proofs/Hearing.antt.
 use mathlib.Core.Bool.{Bool, true, false, cond, not, _&&_}
 use mathlib.Core.List.{List, [], _∷_, _++_}
@@ -47,6 +47,6 @@ unfoldable pub left-over : Pending → Bool
 left-over p = not (p .ended) && ltb 0 (p .count)
 
 -- what is told, line by line, as these bytes come and then no more
-unfoldable pub told : Pending → List ℕ → List Spoken
-told p [] = cond (left-over p) (pending-spoken p ∷ []) []
-told p (b ∷ bs) = cond (after p b .ended) (pending-spoken (after p b) ∷ told (after p b) bs) (told (after p b) bs)
+unfoldable pub lines-heard : Pending → List ℕ → List Spoken
+lines-heard p [] = cond (left-over p) (pending-spoken p ∷ []) []
+lines-heard p (b ∷ bs) = cond (after p b .ended) (pending-spoken (after p b) ∷ lines-heard (after p b) bs) (lines-heard (after p b) bs)

@@ -1,12 +1,12 @@
 -- Writes: what the definitions come to under the tests that the code makes. Assumes nothing.
 use mathlib.Core.Path.{_≡_, refl, sym, ap, ap₂, _∙_}
-use mathlib.Core.Bool.{Bool, true, false, cond, not, Bool·beq, _&&_}
+use mathlib.Core.Bool.{Bool, true, false, cond, not, Bool·beq, _&&_, false≢true}
 use mathlib.Core.List.{List, [], _++_}
 use Prim.Native.Nat.{ℕ, _+_, _≤_, _<_}
 use native.Mathlib.Omega.{arith}
 use lib.Dec.{leb, ltb}
 use lib.ListN.{length, take, replicate, length-take}
-use borrow.Author.Tests.{ltb-true, ltb-false, leb-true, lt-ltb, le-ltb, lt-leb, le-leb, ne-eqb}
+use borrow.Author.Tests.{ltb-true, ltb-false, lt-ltb, le-ltb, lt-leb, le-leb, eq-eqb, ne-eqb}
 use Rattle.wire.specs.Splice.{splice}
 use Rattle.wire.specs.Little.{little}
 use Rattle.wire.proofs.SpliceLaws.{splice-none, splice-again}
@@ -92,7 +92,7 @@ writing-row t e = let f = held-fits t (is-writing (t .direction)) e in record { 
     go : (d : Direction) → (is-writing d && counts t) ≡ true → allows d (at-row (t .row) .access) ≡ true → at-row (t .row) .access ≡ RO → ⊥
     go Neither e a r = let z : _≡_ {A = ℕ} 0 1 = cc in absurd (omega arith)
     go Reads e a r = let z : _≡_ {A = ℕ} 0 1 = cc in absurd (omega arith)
-    go Writes e a r = let h : 2 ≤ at-row (t .row) .access = leb-true 2 (at-row (t .row) .access) a in omega arith
+    go Writes e a r = false≢true (ap not (sym (eq-eqb (at-row (t .row) .access) RO r)) ∙ a)
 
 -- ---- a whole write
 

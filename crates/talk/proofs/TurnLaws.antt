@@ -13,7 +13,7 @@ use Rattle.dialogue.specs.declared.Pending.{Pending}
 use Rattle.dialogue.specs.Text.{answer-text, none-text, unknown-text}
 use Rattle.dialogue.specs.Lines.{after, pending-spoken}
 use Rattle.dialogue.proofs.TextLaws.{spoken-line}
-use Rattle.talk.specs.Turns.{Memory, memory, Turn, turn, answered, taken}
+use Rattle.talk.specs.Turns.{Memory, memory, Turn, turn, answered-turn, taken}
 use Rattle.talk.specs.Run.{Progress, progress, after-line, served-if, after-byte, after-bytes}
 
 pub unknown-taken : (s : Spoken) (m : Memory) (text : List ℕ) → s .message ≡ false → text ≡ unknown-text → turn text m ≡ taken s m
@@ -22,11 +22,11 @@ unknown-taken s m text h e = rw (h, e)
 
 module _ (s : Spoken) (m : Memory) (number : ℕ) (v b st answer text : List ℕ) (h : s .message ≡ true) (e : called number v b st answer ≡ message-call (s .line) (s .eight) (m .values) (m .block) (m .state) (replicate 8 0)) where
   pub none-taken : number ≡ 5 → text ≡ none-text (s .line) → turn text (memory v b st) ≡ taken s m
-  unfolding taken answered
+  unfolding taken answered-turn
   none-taken k t = rw (h, ← e, eq-eqb number 5 k, t)
 
   pub answer-taken : (number ≡ 5 → ⊥) → text ≡ answer-text (s .line) answer → turn text (memory v b st) ≡ taken s m
-  unfolding taken answered
+  unfolding taken answered-turn
   answer-taken k t = rw (h, ← e, ne-eqb number 5 k, t)
 
 -- the line that has come, from what it says

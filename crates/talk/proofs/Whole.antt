@@ -5,13 +5,13 @@ use mathlib.Core.Path.{_≡_, refl, ap, _∙_}
 use Prim.Native.Nat.{ℕ}
 use Rattle.dialogue.specs.declared.Pending.{Pending}
 use Rattle.dialogue.specs.Text.{spoken}
-use Rattle.dialogue.specs.Lines.{lines, nothing-yet, after, pending-spoken, left-over, told}
+use Rattle.dialogue.specs.Lines.{lines, nothing-yet, after, pending-spoken, left-over, lines-heard}
 use Rattle.dialogue.proofs.Hearing.{heard}
 use Rattle.talk.specs.Turns.{Memory, taken}
 use Rattle.talk.specs.Run.{Progress, progress, after-line, served-if, after-byte, after-bytes, after-end, after-lines}
 
-module _ (bs : List ℕ) (rest : (p : Pending) (m : Memory) → after-end (after-bytes (progress p m) bs) ≡ after-lines m (told p bs)) where
-  one-byte : (p : Pending) (m : Memory) (e : Bool) → after-end (after-bytes (served-if e p m) bs) ≡ after-lines m (cond e (pending-spoken p ∷ told p bs) (told p bs))
+module _ (bs : List ℕ) (rest : (p : Pending) (m : Memory) → after-end (after-bytes (progress p m) bs) ≡ after-lines m (lines-heard p bs)) where
+  one-byte : (p : Pending) (m : Memory) (e : Bool) → after-end (after-bytes (served-if e p m) bs) ≡ after-lines m (cond e (pending-spoken p ∷ lines-heard p bs) (lines-heard p bs))
   unfolding served-if after-lines after-line
   one-byte p m true = rest p (taken (pending-spoken p) m .left)
   one-byte p m false = rest p m
@@ -21,8 +21,8 @@ unfolding after-lines after-line
 ended p m true = refl
 ended p m false = refl
 
-told-served : (bs : List ℕ) (p : Pending) (m : Memory) → after-end (after-bytes (progress p m) bs) ≡ after-lines m (told p bs)
-unfolding after-bytes after-end after-byte told
+told-served : (bs : List ℕ) (p : Pending) (m : Memory) → after-end (after-bytes (progress p m) bs) ≡ after-lines m (lines-heard p bs)
+unfolding after-bytes after-end after-byte lines-heard
 told-served [] p m = ended p m (left-over p)
 told-served (b ∷ bs) p m = one-byte bs (told-served bs) (after p b) m (after p b .ended)
 

@@ -25,8 +25,8 @@ abbrev pub turn : List ℕ → Memory → Turn
 turn text left = record { text = text; left = left }
 
 -- the line and the answer are printed; the call's number 5 is no answer (R13.8)
-unfoldable pub answered : ℕ → Called → Turn
-answered line c =
+unfoldable pub answered-turn : ℕ → Called → Turn
+answered-turn line c =
     turn (cond (eqb (c .number) 5) (none-text line) (answer-text line (c .answer)))
     (memory (c .values) (c .block) (c .state))
 
@@ -34,5 +34,5 @@ answered line c =
 unfoldable pub taken : Spoken → Memory → Turn
 taken s m =
     cond (s .message)
-    (answered (s .line) (message-call (s .line) (s .eight) (m .values) (m .block) (m .state) (replicate 8 0)))
+    (answered-turn (s .line) (message-call (s .line) (s .eight) (m .values) (m .block) (m .state) (replicate 8 0)))
     (turn unknown-text m)

@@ -1,15 +1,15 @@
 -- RULE: A LINE'S TRANSFER IN ITS RECORD. The struct `Transfer` is the code's own: of a read `held` begins with the value, of a write with
 -- the bytes sent (R6.4). `transfers` keeps a transfer in it, as crate order asks.
-use Prim.Native.Nat.{ℕ, _%_}
+use Prim.Native.Nat.{ℕ}
 use mathlib.Core.Path.{_≡_}
-use mathlib.Core.Bool.{Bool, true, false, cond, _&&_}
+use mathlib.Core.Bool.{Bool, true, false, cond, not, _&&_}
 use mathlib.Core.List.{List, _++_}
 use lib.Dec.{eqb, leb, ltb}
 use lib.ListN.{length, take, drop, replicate}
 use Rattle.order.specs.Talk.{Request, open-read, next-part, expedited, open-write, send-part, give-up, unknown, value, sizes, Outcome, stored, restarted, declined, Pending, idle, reading, writing}
 use Rattle.order.specs.Keep.{Keeping}
 use Rattle.table.specs.Rows.{row-count, at-row}
-use Rattle.table.specs.Row.{smallest, largest, Allowed}
+use Rattle.table.specs.Row.{RO, WO, smallest, largest, Allowed}
 use Rattle.table.specs.Find.{find-row, row-number}
 use Rattle.table.specs.declared.Found.the-variants.{At}
 use Rattle.sdo.specs.declared.Key.{Key}
@@ -29,11 +29,11 @@ key-at row = record { index = at-row row .index; sub = at-row row .sub }
 abbrev pub row-of : Key → ℕ
 row-of k = row-number (find-row (k .index) (k .sub))
 
--- does an access (1 read only, 2 write only, 3 both) allow the direction?
+-- does an access allow the direction?
 unfoldable pub allows : Direction → ℕ → Bool
 allows Neither access = false
-allows Reads access = eqb (access % 2) 1
-allows Writes access = leb 2 access
+allows Reads access = not (eqb access WO)
+allows Writes access = not (eqb access RO)
 
 -- the entry has a row that allows the direction, and a value of it may have this length
 pub record RowOf (d : Direction) (k : Key) (n : ℕ) : Type 0 where

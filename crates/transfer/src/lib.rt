@@ -1,5 +1,6 @@
 // A line's transfer by value: whether it counts, and the record after an opening or a part.
 use sdo::Key;
+use table::access;
 ghost use mathlib.Core.Bool.{_&&_};
 ghost use mathlib.Core.Path.{_≡_};
 ghost use Prim.Native.Nat.{_+_, _≤_, _<_};
@@ -41,8 +42,8 @@ fn access_allows(d: Direction, access: u8) -> bool
 {
     match d {
         Direction::Neither => false,
-        Direction::Reads => access % 2 == 1,
-        Direction::Writes => 2 <= access,
+        Direction::Reads => access != access::WO,
+        Direction::Writes => access != access::RO,
     }
 }
 
