@@ -11,9 +11,11 @@ ghost use Rattle.line.specs.Gauge.{plain, store-of};
 ghost use Rattle.board.specs.Calls.{Lent, called, served, message-call, powered, power-up-call, fed, sample-call, shown, image-call};
 
 // The sizes of what is lent, the lines, and the numbers that a call gives back, as include/gauge.h names them.
-const VALUES_SIZE: usize = 1024;
+pub const VALUES_SIZE: usize = 1024;
 
-const BLOCK_SIZE: usize = 512;
+pub const BLOCK_SIZE: usize = 512;
+
+pub const STATE_SIZE: usize = state::SIZE;
 
 const MESSAGE_SIZE: usize = 8;
 
@@ -90,7 +92,7 @@ pub extern "C" fn gauge_message(
     if block.len() != BLOCK_SIZE {
         return BAD_MEMORY;
     }
-    if state.len() != state::SIZE {
+    if state.len() != STATE_SIZE {
         return BAD_MEMORY;
     }
     if LINE_SERVICE < line {
@@ -115,7 +117,7 @@ pub extern "C" fn gauge_power_up(values: &mut [u8], block: &[u8], state: &mut [u
     if block.len() != BLOCK_SIZE {
         return BAD_MEMORY;
     }
-    if state.len() != state::SIZE {
+    if state.len() != STATE_SIZE {
         return BAD_MEMORY;
     }
     gauge::power::fill(values, block);
@@ -137,7 +139,7 @@ pub extern "C" fn gauge_sample(
     if values.len() != VALUES_SIZE {
         return BAD_MEMORY;
     }
-    if state.len() != state::SIZE {
+    if state.len() != STATE_SIZE {
         return BAD_MEMORY;
     }
     let on = state::trips_at(state);

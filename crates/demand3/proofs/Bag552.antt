@@ -1,5 +1,5 @@
 -- THE BOARD'S GAUGE MEETS WHAT DEMAND 3 ASKS: its codes, its lengths, its rows; and so demand 3 for the board with its records by value.
-use Prim.Native.Nat.{ℕ, _%_, _≤_, _<_}
+use Prim.Native.Nat.{ℕ, _≤_, _<_}
 use native.Mathlib.Omega.{arith}
 use mathlib.Core.Path.{_≡_, refl, ap, subst, sym, _∙_}
 use mathlib.Core.Bool.{Bool, true, false, cond, not}
@@ -7,7 +7,7 @@ use mathlib.Core.List.{List}
 use mathlib.Core.Option.{Option, none, some}
 use lib.Dec.{eqb}
 use lib.ListN.{length, length-take}
-use borrow.Author.Tests.{eqb-false, eq-eqb, ne-eqb, le-leb}
+use borrow.Author.Tests.{ne-eqb}
 use Rattle.order.specs.Talk.{Read, value, denied, Sizes, sizes, closed, Outcome, stored, restarted, declined}
 use Rattle.order.specs.Gauge.{counted}
 use Rattle.order.specs.Bytes.{Call}

@@ -31,7 +31,7 @@ use Rattle.transfer.specs.declared.Transfer.{Transfer}
 use Rattle.transfer.specs.Records.{zero-record, view, transfers}
 use Rattle.transfer.proofs.RecordLaws.{Whole, Small, served-small}
 use Rattle.transfer.proofs.Kept.{next-served}
-use Rattle.state.specs.State.{record-place, record-at, record-bytes, trips-place, trips-at, trips-bytes, fresh-state, settled}
+use Rattle.state.specs.State.{state-size, record-size, record-place, record-at, record-bytes, trips-place, trips-at, trips-bytes, fresh-state, settled}
 use Rattle.line.specs.Gauge.{Sample, sampled, bag552, plain, store-of}
 use Rattle.board.specs.Calls.{Called, Fed, sized, called, number-by, served, message-call, power-up-call, powered, fed-by, sample-call}
 use Rattle.board.proofs.CallLaws.{place-most, all-sized, no-line, no-room, no-message, is-served}
@@ -44,7 +44,7 @@ use Rattle.demand3.proofs.StateBytes.{record-long, record-back, record-
 -- what every run keeps: the arrays' lengths
 pub record Fitting (a : Arrays) : Type 0 where
   pub memory-sized : GoodStore (store-in a)
-  pub state-is : length (a .state) ≡ 256
+  pub state-is : length (a .state) ≡ state-size
 
 -- ---- the state after a message and after a device reset
 
@@ -52,37 +52,37 @@ zero-small : Small zero-record
 zero-small = record { row-fits = omega arith; len-fits = omega arith; place-fits = omega arith }
 
 -- a record of either line is written
-module _ (s : List ℕ) (long : length s ≡ 256) (t : Transfer) (w : Whole t) (small : Small t) where
-  put-long : (at : ℕ) → at + 70 ≤ 256 → length (splice s at (record-bytes t)) ≡ 256
+module _ (s : List ℕ) (long : length s ≡ state-size) (t : Transfer) (w : Whole t) (small : Small t) where
+  put-long : (at : ℕ) → at + record-size ≤ state-size → length (splice s at (record-bytes t)) ≡ state-size
   put-long at h = length-splice s at (record-bytes t) (omega (arith, record-long t w)) ∙ long
 
-  put-own : (at : ℕ) → at + 70 ≤ 256 → record-at (splice s at (record-bytes t)) at ≡ t
+  put-own : (at : ℕ) → at + record-size ≤ state-size → record-at (splice s at (record-bytes t)) at ≡ t
   put-own at h = record-back s at t w small (omega arith)
 
-  put-other : (at q : ℕ) → at + 70 ≤ 256 → (at + 70 ≤ q) ⊎ (q + 70 ≤ at) → record-at (splice s at (record-bytes t)) q ≡ record-at s q
+  put-other : (at q : ℕ) → at + record-size ≤ state-size → (at + record-size ≤ q) ⊎ (q + record-size ≤ at) → record-at (splice s at (record-bytes t)) q ≡ record-at s q
   put-other at q h b = record-beside s at (record-bytes t) q (omega arith) (rw (record-long t w) b)
 
-  put-trips : (at : ℕ) → at + 70 ≤ trips-place → trips-at (splice s at (record-bytes t)) ≡ trips-at s
+  put-trips : (at : ℕ) → at + record-size ≤ trips-place → trips-at (splice s at (record-bytes t)) ≡ trips-at s
   put-trips at h = trips-beside s at (record-bytes t) (omega arith) (rw (record-long t w) h)
 
-module _ (s : List ℕ) (long : length s ≡ 256) where
+module _ (s : List ℕ) (long : length s ≡ state-size) where
   abbrev first : List ℕ
   first = splice s 0 (record-bytes zero-record)
 
   abbrev second : List ℕ
   second = splice first 96 (record-bytes zero-record)
 
-  first-long : length first ≡ 256
+  first-long : length first ≡ state-size
   first-long = put-long s long zero-record refl zero-small 0 (omega arith)
 
-  second-long : length second ≡ 256
+  second-long : length second ≡ state-size
   second-long = put-long first first-long zero-record refl zero-small 96 (omega arith)
 
-  off-apart : (q : ℕ) → q + 70 ≤ trips-place → record-at (fresh-state s) q ≡ record-at second q
+  off-apart : (q : ℕ) → q + record-size ≤ trips-place → record-at (fresh-state s) q ≡ record-at second q
   unfolding fresh-state
   off-apart q h = record-beside second trips-place (trips-bytes all-off) q (omega (arith, second-long)) (inr h)
 
-  pub fresh-long-state : length (fresh-state s) ≡ 256
+  pub fresh-long-state : length (fresh-state s) ≡ state-size
   unfolding fresh-state
   fresh-long-state = length-splice second trips-place (trips-bytes all-off) (omega (arith, second-long, trips-long all-off)) ∙ second-long
 
@@ -114,7 +114,7 @@ boards-same : {g g′ : Store} {r r′ : Records} → g ≡ g′ → r ≡ r′ 
 boards-same e f = rw (e, f)
 
 -- the records, and the trip states, after a message
-settled-records : (a : Arrays) (line : ℕ) (next : Transfer) (reset : Bool) → line ≤ 1 → length (a .state) ≡ 256 → Whole next → Small next
+settled-records : (a : Arrays) (line : ℕ) (next : Transfer) (reset : Bool) → line ≤ 1 → length (a .state) ≡ state-size → Whole next → Small next
     → _≡_ {A = Records} (λ l. record-at (settled (record-place line) next reset (a .state)) (line-place l))
     (cond reset (λ l. zero-record) (put-at (setup .wires .same) (board-in a .records) (line-of line) next))
 unfolding settled line-of put-at
@@ -125,16 +125,16 @@ settled-records a (suc zero) next false h n w small =
     records-same (put-other (a .state) n next w small 96 0 (omega arith) (inr (omega arith))) (put-own (a .state) n next w small 96 (omega arith))
 settled-records a (suc (suc k)) next false h n w small = absurd (omega arith)
 
-place-before : (line : ℕ) → line ≤ 1 → record-place line + 70 ≤ trips-place
+place-before : (line : ℕ) → line ≤ 1 → record-place line + record-size ≤ trips-place
 place-before line h = omega arith
 
-module _ (s : List ℕ) (n : length s ≡ 256) (line : ℕ) (h : line ≤ 1) (next : Transfer) (w : Whole next) (small : Small next) where
+module _ (s : List ℕ) (n : length s ≡ state-size) (line : ℕ) (h : line ≤ 1) (next : Transfer) (w : Whole next) (small : Small next) where
   settled-trips : (reset : Bool) → trips-at (settled (record-place line) next reset s) ≡ cond reset all-off (trips-at s)
   unfolding settled
   settled-trips true = fresh-trips s n
   settled-trips false = put-trips s n next w small (record-place line) (place-before line h)
 
-  settled-long : (reset : Bool) → length (settled (record-place line) next reset s) ≡ 256
+  settled-long : (reset : Bool) → length (settled (record-place line) next reset s) ≡ state-size
   unfolding settled
   settled-long true = fresh-long-state s n
   settled-long false = put-long s n next w small (record-place line) (place-most line h)
@@ -145,7 +145,7 @@ record-of-line a zero h = refl
 record-of-line a (suc zero) h = refl
 record-of-line a (suc (suc n)) h = absurd (omega arith)
 
-whole-at : (s : List ℕ) (at : ℕ) → length s ≡ 256 → at + 70 ≤ 256 → Whole (record-at s at)
+whole-at : (s : List ℕ) (at : ℕ) → length s ≡ state-size → at + record-size ≤ state-size → Whole (record-at s at)
 unfolding record-at
 whole-at s at n h = part-length s at 64 (omega arith)
 
@@ -278,7 +278,7 @@ module _ (a : Arrays) (ok : Fitting a) (s : Sample) where
 
   sample-is : sample-call (s .pressure) (s .valid) (s .faults) (s .seconds) (a .values) (a .state) ≡ fed-by fed-store (a .state)
   unfolding sample-call
-  sample-is = rw (eq-eqb (length (a .values)) 1024 (ok .memory-sized .values-are), eq-eqb (length (a .state)) 256 (ok .state-is))
+  sample-is = rw (eq-eqb (length (a .values)) 1024 (ok .memory-sized .values-are), eq-eqb (length (a .state)) state-size (ok .state-is))
 
   abbrev tripped : Trips
   tripped = trips-after (a .values) (trips-at (a .state)) (s .pressure) (s .valid)
@@ -290,7 +290,7 @@ module _ (a : Arrays) (ok : Fitting a) (s : Sample) where
 
   sampled-lent : Fitting sampled-arrays
   sampled-lent =
-      let n : length (a .state) ≡ 256 = ok .state-is in
+      let n : length (a .state) ≡ state-size = ok .state-is in
       record {
         memory-sized = record {
           values-are = values-long (a .values) (trips-at (a .state)) (s .pressure) (s .valid) (s .faults) (s .seconds) (ok .memory-sized .values-are);
@@ -299,8 +299,8 @@ module _ (a : Arrays) (ok : Fitting a) (s : Sample) where
         state-is = length-splice (a .state) trips-place (trips-bytes tripped) (omega (arith, trips-long tripped)) ∙ n;
       }
 
-  beside-trips : (at : ℕ) → at + 70 ≤ trips-place → record-at (a .state) at ≡ record-at (sampled-arrays .state) at
-  beside-trips at h = let n : length (a .state) ≡ 256 = ok .state-is in sym (record-beside (a .state) trips-place (trips-bytes tripped) at (omega arith) (inr h))
+  beside-trips : (at : ℕ) → at + record-size ≤ trips-place → record-at (a .state) at ≡ record-at (sampled-arrays .state) at
+  beside-trips at h = let n : length (a .state) ≡ state-size = ok .state-is in sym (record-beside (a .state) trips-place (trips-bytes tripped) at (omega arith) (inr h))
 
   -- LAW: a sample is the board's call
   sample-follows : record-call setup transfers (board-in a) (sensed s) ≡ (board-in sampled-arrays, [])
@@ -360,7 +360,7 @@ same-run (c ∷ cs) a ok =
 -- ---- power-up
 
 module _ (v b s : List ℕ) where
-  sized-lengths : sized v b s ≡ true → (length b ≡ 512) × (length s ≡ 256)
+  sized-lengths : sized v b s ≡ true → (length b ≡ 512) × (length s ≡ state-size)
   unfolding sized
   sized-lengths e =
       let p = and-eq-true-iff (eqb (length v) 1024) _ .0 e in
@@ -377,7 +377,7 @@ module _ (v b s : List ℕ) where
       go false q = absurd (omega arith)
 
   module _ (zero-given : (power-up-call v b s) .number ≡ 0) where
-    long : (length b ≡ 512) × (length s ≡ 256)
+    long : (length b ≡ 512) × (length s ≡ state-size)
     long = sized-lengths (accepted zero-given)
 
     powered-is : power-on v b s ≡ arrays (fresh-values b) b (fresh-state s)

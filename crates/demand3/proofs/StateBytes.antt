@@ -20,7 +20,7 @@ use Rattle.transfer.specs.declared.Direction.{Direction}
 use Rattle.transfer.specs.declared.Direction.the-variants.{Neither, Reads, Writes}
 use Rattle.transfer.specs.declared.Transfer.{Transfer}
 use Rattle.transfer.proofs.RecordLaws.{Whole, Small}
-use Rattle.state.specs.State.{direction-of, direction-byte, record-at, record-tail, record-bytes, trips-place, trips-at, trips-bytes}
+use Rattle.state.specs.State.{state-size, record-size, direction-of, direction-byte, record-at, record-tail, record-bytes, trips-place, trips-at, trips-bytes}
 
 -- ---- parts of what was written
 
@@ -49,7 +49,7 @@ tail-long : (t : Transfer) → length (record-tail t) ≡ 6
 unfolding record-tail
 tail-long t = simp (length-append, length-little)
 
-pub record-long : (t : Transfer) → Whole t → length (record-bytes t) ≡ 70
+pub record-long : (t : Transfer) → Whole t → length (record-bytes t) ≡ record-size
 unfolding record-bytes
 record-long t w = length-append (t .held) (record-tail t) ∙ omega (arith, tail-long t)
 
@@ -59,7 +59,7 @@ direction-back Neither = refl
 direction-back Reads = refl
 direction-back Writes = refl
 
-module _ (s : List ℕ) (at : ℕ) (t : Transfer) (w : Whole t) (small : Small t) (room : at + 70 ≤ length s) where
+module _ (s : List ℕ) (at : ℕ) (t : Transfer) (w : Whole t) (small : Small t) (room : at + record-size ≤ length s) where
   abbrev written : List ℕ
   written = splice s at (record-bytes t)
 
@@ -87,7 +87,7 @@ module _ (s : List ℕ) (at : ℕ) (t : Transfer) (w : Whole t) (small : Small t
       (set-back written (at + 69) (t .toggle) (tail-back 5 1 (omega arith)))
 
 -- LAW: a record is left alone by what is written beside it
-pub record-beside : (s : List ℕ) (p : ℕ) (vs : List ℕ) (at : ℕ) → p ≤ length s → (p + length vs ≤ at) ⊎ (at + 70 ≤ p) → record-at (splice s p vs) at ≡ record-at s at
+pub record-beside : (s : List ℕ) (p : ℕ) (vs : List ℕ) (at : ℕ) → p ≤ length s → (p + length vs ≤ at) ⊎ (at + record-size ≤ p) → record-at (splice s p vs) at ≡ record-at s at
 unfolding record-at is-set
 record-beside s p vs at h b =
     fields (part-apart s p vs (le-leb p (length s) h) at 64 (is-apart p (length vs) at 64 (first b)))
@@ -97,15 +97,15 @@ record-beside s p vs at h b =
     (at-field 68 1 (omega arith))
     (ap (λ (n : ℕ). not (eqb n 0)) (at-field 69 1 (omega arith)))
   where
-    from : (k n : ℕ) → k + n ≤ 70 → (p + length vs ≤ at) ⊎ (at + 70 ≤ p) → (p + length vs ≤ at + k) ⊎ (at + k + n ≤ p)
+    from : (k n : ℕ) → k + n ≤ record-size → (p + length vs ≤ at) ⊎ (at + record-size ≤ p) → (p + length vs ≤ at + k) ⊎ (at + k + n ≤ p)
     from k n q (inl x) = inl (omega arith)
     from k n q (inr x) = inr (omega arith)
 
-    first : (p + length vs ≤ at) ⊎ (at + 70 ≤ p) → (p + length vs ≤ at) ⊎ (at + 64 ≤ p)
+    first : (p + length vs ≤ at) ⊎ (at + record-size ≤ p) → (p + length vs ≤ at) ⊎ (at + 64 ≤ p)
     first (inl x) = inl x
     first (inr x) = inr (omega arith)
 
-    at-field : (k n : ℕ) → k + n ≤ 70 → number (splice s p vs) (at + k) n ≡ number s (at + k) n
+    at-field : (k n : ℕ) → k + n ≤ record-size → number (splice s p vs) (at + k) n ≡ number s (at + k) n
     at-field k n q = number-apart s p vs (at + k) n (le-leb p (length s) h) (is-apart p (length vs) (at + k) n (from k n q b))
 
 -- ---- the trip states
@@ -119,7 +119,7 @@ unfolding trips-bytes
 trips-long t = simp (length-append, length-little)
 
 -- LAW: the trip states that were written are read back
-pub trips-back : (s : List ℕ) (t : Trips) → length s ≡ 256 → trips-at (splice s trips-place (trips-bytes t)) ≡ t
+pub trips-back : (s : List ℕ) (t : Trips) → length s ≡ state-size → trips-at (splice s trips-place (trips-bytes t)) ≡ t
 unfolding trips-at fromLittle number little trips-bytes
 trips-back s t e = sides (side 0 (t .one .high) (omega arith) refl) (side 1 (t .one .low) (omega arith) refl) (side 2 (t .two .high) (omega arith) refl) (side 3 (t .two .low) (omega arith) refl)
   where

@@ -2,6 +2,7 @@
 use Prim.Native.Nat.{ℕ, _-_}
 use mathlib.Core.List.{List, [], _∷_, _++_, map}
 use lib.ListN.{length, take, drop, replicate}
+use Rattle.state.specs.State.{state-size}
 use Rattle.demand3.specs.Firmware.{Arrays, Exported, to-message, Back, back, history, final, power-on}
 
 -- eight bytes, with zeros for those that are not written out
@@ -26,7 +27,7 @@ expects c = back 0 (padded (c .answer))
 
 -- after power-up on values and state that held FF bytes (R9.3)
 abbrev pub fresh-arrays : Arrays
-fresh-arrays = power-on (replicate 1024 0xFF) (replicate 512 0) (replicate 256 0xFF)
+fresh-arrays = power-on (replicate 1024 0xFF) (replicate 512 0) (replicate state-size 0xFF)
 
 -- what the board gives back, and what it must give back
 abbrev pub gives-from : Arrays → List Case → List Back

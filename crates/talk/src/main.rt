@@ -52,9 +52,9 @@ fn hear_all(values: &mut [u8], block: &mut [u8], state: &mut [u8]) -> Pending
 }
 
 fn main() {
-    let mut values = [0u8; 1024];
-    let mut block = [0u8; 512];
-    let mut state = [0u8; 256];
+    let mut values = [0u8; board::VALUES_SIZE];
+    let mut block = [0u8; board::BLOCK_SIZE];
+    let mut state = [0u8; board::STATE_SIZE];
     board::gauge_power_up(&mut values, &block, &mut state);
     let last = hear_all(&mut values, &mut block, &mut state);
     if hear::is_left(last) {
