@@ -16,7 +16,7 @@ returns : tie.Need-returns
 returns c =
     let b = c .before .before .before .before .before .before .before .before .before .before .before in
     let a = b .args in
-    store-refused (a .values .now) (a .block .now) (c .before .before .fill-block .ensures .0) (c .if1 .taken)
+    store-refused (a .values .now) (a .block .now) (c .before .before .fill-block .ensures .0) (omega (arith, c .if1 .taken))
 
 write-block-requires : tie.Need-write-block-requires
 write-block-requires c κs = search needs
