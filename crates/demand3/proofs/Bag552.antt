@@ -260,7 +260,7 @@ powered-good block n = record { values-are = fresh-long _; block-is = n }
 
 -- what the two lines keep in their records
 pub kept-records : Keeps setup transfers GoodStore Whole
-kept-records = keeps bag552 real-rows
+kept-records = keeps bag552 real-rows (setup .wires) (setup .speech)
 
 -- THEOREM: demand 3 for the board with its records by value, for every list of messages and samples from power-up
 pub demand3-board : (block : List ℕ) → length block ≡ 512 → (cs : List (Call setup)) → Demand3Records setup transfers (powered-store block) cs

@@ -175,7 +175,7 @@ module _ (a : Arrays) (ok : Fitting a) (line : ℕ) (on-line : line ≤ 1) (m : 
   next-long = again .whole
 
   next-small : Small (said .next)
-  next-small = served-small (said .next) (next-served bag552 real-rows (store-in a) (ok .memory-sized) own m own-whole)
+  next-small = served-small (said .next) (next-served bag552 real-rows eight-bytes (store-in a) (ok .memory-sized) own m own-whole)
 
   -- its answer is eight bytes, or none
   said-eight : (said .bytes ≡ []) ⊎ (length (said .bytes) ≡ 8)
@@ -185,7 +185,7 @@ module _ (a : Arrays) (ok : Fitting a) (line : ℕ) (on-line : line ≤ 1) (m : 
   store-after : said .store ≡ store-in after
   store-after =
       ap (λ (t : Trips). record { memory = said .store .memory; trips = t })
-      (trips-kept (store-in a) own m ∙ sym (settled-trips (a .state) (ok .state-is) line on-line (said .next) next-long next-small (said .reset)))
+      (trips-kept eight-bytes (store-in a) own m ∙ sym (settled-trips (a .state) (ok .state-is) line on-line (said .next) next-long next-small (said .reset)))
 
   -- LAW: a message that is served is the board's call
   message-follows : record-call setup transfers (board-in a) (heard (line-of line) m) ≡ (board-in after, said .bytes)

@@ -7,13 +7,12 @@ use lib.Dec.{ltb}
 use lib.ListN.{length}
 use Rattle.order.specs.Talk.{Said, Request, open-read, next-part, expedited, open-write, send-part, give-up, unknown, Answer, write-opened, part-taken, dropped, Sizes, sizes, closed, Outcome, stored, restarted, declined, Pending, idle, reading, writing}
 use Rattle.order.specs.Gauge.{too-long, too-short, by-length, counted, judged, judged-by, allowed, write-whole}
-use Rattle.order.specs.Serve.{Form, toggle-code, over, Served, keeping, conclude, take-part, serve}
+use Rattle.order.specs.Serve.{Form, Speech, toggle-code, over, Served, keeping, conclude, take-part, serve}
 use Rattle.order.specs.Keep.{is-wiped, speak}
 use Rattle.trip.specs.Trip.{all-off}
 use Rattle.gauge.specs.Memory.{Memory, Store}
 use Rattle.gauge.specs.Whole.{with-trips, commit-whole}
 use Rattle.sdo.specs.declared.Key.{Key}
-use Rattle.sdo.specs.Eight.{ask-of, eight, eight-bytes}
 use Rattle.transfer.specs.declared.Transfer.{Transfer}
 use Rattle.transfer.specs.Records.{view, transfers}
 use Rattle.line.specs.Gauge.{plain}
@@ -74,7 +73,6 @@ module _ (g : Store) where
   kept-serve F x give-up = refl
   kept-serve F x unknown = refl
 
-pub trips-kept : (g : Store) (t : Transfer) (m : List ℕ)
-    → (speak plain transfers eight-bytes g t m) .store .trips ≡ cond ((speak plain transfers eight-bytes g t m) .reset) all-off (g .trips)
+pub trips-kept : (H : Speech Key Key) (g : Store) (t : Transfer) (m : List ℕ) → (speak plain transfers H g t m) .store .trips ≡ cond ((speak plain transfers H g t m) .reset) all-off (g .trips)
 unfolding speak TripsKept
-trips-kept g t m = kept-serve g eight (view t) (ask-of m)
+trips-kept H g t m = kept-serve g (H .form) (view t) (H .ask m)

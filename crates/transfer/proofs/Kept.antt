@@ -1,4 +1,4 @@
--- What a message leaves is a transfer that the line's record can hold, in any form: `transfers` keeps the transfers of the two lines.
+-- What a message leaves is a transfer that the line's record can hold, in any form: `transfers` keeps the transfers of any lines, however they speak.
 use Prim.Native.Nat.{ℕ, _+_, _≤_, _<_}
 use native.Mathlib.Omega.{arith}
 use mathlib.Core.Path.{_≡_, refl}
@@ -9,12 +9,12 @@ use lib.Dec.{T, ltb, leb, nleb→lt, nltb→le}
 use lib.ListN.{length, getD}
 use Rattle.order.specs.Talk.{Said, announced, unsaid, own, Request, open-read, next-part, expedited, open-write, send-part, give-up, unknown, Answer, write-opened, part-taken, dropped, Read, value, denied, Sizes, sizes, closed, Outcome, stored, restarted, declined, Pending, idle, reading, writing}
 use Rattle.order.specs.Gauge.{Gauge, too-long, too-short, narrow, counted, say, judged, judged-by, allowed, write-whole}
-use Rattle.order.specs.Serve.{Form, toggle-code, remains, Reply, over, read-opening, give-part, read-part, take-more, write-opening, keeping, conclude, take-part, write-part, serve}
+use Rattle.order.specs.Serve.{Form, Speech, Wires, Setup, toggle-code, remains, Reply, over, read-opening, give-part, read-part, take-more, write-opening, keeping, conclude, take-part, write-part, serve}
 use Rattle.order.specs.Keep.{speak, Again, Keeps}
 use Rattle.order.proofs.Kept.{abort-drops}
 use Rattle.sdo.specs.declared.Key.{Key}
 use Rattle.sdo.specs.Eight.{ask-of, eight, eight-bytes}
-use Rattle.sdo.specs.Lines.{Entries, gauge, Line, two-lines}
+use Rattle.sdo.specs.Lines.{Entries, gauge}
 use Rattle.sdo.proofs.RoundTrip.{abort-told}
 use Rattle.transfer.specs.declared.Direction.the-variants.{Reads, Writes}
 use Rattle.transfer.specs.declared.Transfer.{Transfer}
@@ -177,35 +177,33 @@ module _ (E : Entries) {Good : E .Store → Type 0} (R : Rows E Good) where
     good-serve row g x give-up ok v = ok
     good-serve row g x unknown ok v = ok
 
-  -- ---- one message on a line
+  -- ---- one message on a line, however it speaks
 
-  module _ (g : E .Store) (ok : Good g) (t : Transfer) (m : List ℕ) (w : Whole t) where
-    leaves : Valid ((base t (ask-of m)) .row) (remains ((serve P eight g (view t) (ask-of m)) .after))
-    leaves = valid-serve eight g t (view t) (ask-of m) ok (valid-view t w)
+  module _ (H : Speech Key Key) (g : E .Store) (ok : Good g) (t : Transfer) (m : List ℕ) (w : Whole t) where
+    leaves : Valid ((base t (H .ask m)) .row) (remains ((serve P (H .form) g (view t) (H .ask m)) .after))
+    leaves = valid-serve (H .form) g t (view t) (H .ask m) ok (valid-view t w)
 
     -- THEOREM: every message leaves its line's record a transfer that counts, or all zero; a record that counts as none is so cleared
-    pub next-served : (counts ((speak P transfers eight-bytes g t m) .next) ≡ true) ⊎ ((speak P transfers eight-bytes g t m) .next ≡ zero-record)
+    pub next-served : (counts ((speak P transfers H g t m) .next) ≡ true) ⊎ ((speak P transfers H g t m) .next ≡ zero-record)
     unfolding speak
-    next-served = lay-served (base t (ask-of m)) _ leaves
+    next-served = lay-served (base t (H .ask m)) _ leaves
 
-    again : (l : Line) → Again (two-lines E) transfers (Good) Whole l g t m
+  -- THE INSTANCE, for any lines
+  module _ (W : Wires (Pending Key) idle) (H : W .Line → Speech Key Key) where
+    abbrev lines : Setup
+    lines = record { gauge = P; wires = W; speech = H }
+
+    again : (l : W .Line) (g : E .Store) (t : Transfer) (m : List ℕ) → Good g → Whole t → Again lines transfers Good Whole l g t m
     unfolding speak
-    again l =
+    again l g t m ok w =
         record {
-          good = good-serve eight (t .row) g (view t) (ask-of m) ok (valid-view t w);
-          whole = whole-lay (base t (ask-of m)) _ (whole-base t (ask-of m) w) leaves;
-          seen = view-lay (base t (ask-of m)) _ leaves;
+          good = good-serve (H l .form) (t .row) g (view t) (H l .ask m) ok (valid-view t w);
+          whole = whole-lay (base t (H l .ask m)) _ (whole-base t (H l .ask m) w) (leaves (H l) g ok t m w);
+          seen = view-lay (base t (H l .ask m)) _ (leaves (H l) g ok t m w);
         }
 
-  -- THE INSTANCE
-  pub keeps : Keeps (two-lines E) transfers Good Whole
-  keeps =
-      record {
-        empty-whole = refl;
-        empty-idle = view-zero;
-        again = λ l g t m ok w. again g ok t m w l;
-        sample-good = R .sample-good;
-      }
+    pub keeps : Keeps lines transfers Good Whole
+    keeps = record { empty-whole = refl; empty-idle = view-zero; again = again; sample-good = R .sample-good }
 
 -- THEOREM: every abort drops its transfer (R6.2) and leaves the store as it was (R7.10)
 pub abort-clears : (E : Entries) (g : E .Store) (t : Transfer) (m : List ℕ) → getD ((speak (gauge E) transfers eight-bytes g t m) .bytes) 0 0 ≡ 0x80
