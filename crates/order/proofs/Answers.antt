@@ -7,6 +7,7 @@ use lib.ListN.{length}
 use Rattle.order.specs.Talk.{Request, open-read, next-part, expedited, open-write, send-part, give-up, unknown, Answer, opened, part-given, write-opened, part-taken, refused, dropped, no-transfer, silent, Read, value, denied, Sizes, sizes, closed, Outcome, stored, restarted, declined, Pending, idle, reading, writing}
 use Rattle.order.specs.Gauge.{Gauge, say, judged, allowed, write-whole}
 use Rattle.order.specs.Serve.{Form, toggle-code, Reply, over, read-opening, give-part, read-part, take-more, write-opening, keeping, conclude, take-part, write-part, serve}
+use Rattle.order.proofs.Serial.{by-cond}
 
 -- any but the client's abort (R5.9)
 unfoldable pub Awaits : {K : Type 0} → Request K → Type 0
@@ -30,8 +31,7 @@ Given silent = ⊥
 
 module _ (P : Gauge) where
   either : (d : Bool) (r r′ : Reply P) → Given (r .answer) → Given (r′ .answer) → Given ((cond d r r′) .answer)
-  either true r r′ h h′ = h
-  either false r r′ h h′ = h′
+  either d r r′ h h′ = by-cond (λ (x : Reply P). Given (x .answer)) d r r′ (λ _. h) (λ _. h′)
 
   read-answers : (F : Form) (k : P .Key) (r : Read) → Given ((read-opening P F k r) .answer)
   unfolding read-opening Given
@@ -77,7 +77,7 @@ module _ (P : Gauge) where
   pub answers : (F : Form) (g : P .Store) (x : Pending (P .Key)) (a : Request (P .Key)) → Awaits a → Given ((serve P F g x a) .answer)
   unfolding serve Awaits Given
   answers F g x (open-read k) w = read-answers F k (P .read-whole g k)
-  answers F g x (next-part u) w = part-answers F x u
+  answers F g x (next-part u) w = part-answers F _ u
   answers F g x (expedited k s bytes) w = end-answers g k (write-opened (P .name-of k)) (write-whole P g k s bytes) tt
   answers F g x (open-write k n bytes) w = write-answers k bytes (allowed P k (say n))
   answers F g x (send-part u bytes last) w = sent-answers g x u bytes last
