@@ -77,7 +77,7 @@ module _ (P : Gauge) where
   pub answers : (F : Form) (g : P .Store) (x : Pending (P .Key)) (a : Request (P .Key)) → Awaits a → Given ((serve P F g x a) .answer)
   unfolding serve Awaits Given
   answers F g x (open-read k) w = read-answers F k (P .read-whole g k)
-  answers F g x (next-part u) w = part-answers F _ u
+  answers F g x (next-part u) w = part-answers F x u
   answers F g x (expedited k s bytes) w = end-answers g k (write-opened (P .name-of k)) (write-whole P g k s bytes) tt
   answers F g x (open-write k n bytes) w = write-answers k bytes (allowed P k (say n))
   answers F g x (send-part u bytes last) w = sent-answers g x u bytes last
