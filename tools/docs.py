@@ -207,6 +207,7 @@ ASKED = [
     ("Demand 3", [(FIRMWARE, "Demand3Calls")], CALLS),
     ("Count of parts", [(FIRMWARE, "ReadOpened"), (FIRMWARE, "ExactParts")], CALLS),
     ("Table", [("crates/table/specs/Rule.antt", "table-ok"), ("crates/table/specs/Rows.antt", "rows")], []),
+    ("Search", [("crates/table/specs/Halve.antt", name) for name in ("look-count", "told")] + [("crates/table/specs/Find.antt", "find-row")], []),
     ("`talk`", [
         ("crates/dialogue/specs/Text.antt", "spoken"), ("crates/dialogue/specs/Lines.antt", "lines"),
         ("crates/talk/specs/Turns.antt", "taken"), ("crates/talk/specs/Run.antt", "after-lines")], CALLS),

@@ -222,7 +222,7 @@ def table_problems(rows, end):
     if block_end(rows) > BLOCK_BITS:
         yield "the saved block needs %d bits" % block_end(rows)
     if not 128 < len(rows) <= 511:
-        yield "there are %d rows: the table has at most 511, and the search has a page from row 128 on" % len(rows)
+        yield "there are %d rows: the table has at most 511, and columns have a page from row 128 on" % len(rows)
     if len(limit_pairs(rows)[0]) > 64:
         yield "there are more than 64 pairs of limits"
     there = {(row["index"], row["sub"]) for row in rows}
@@ -264,10 +264,19 @@ def page_with_places(page, rows):
     return "\n".join(lines)
 
 
-def printed(row):
-    return "%04X %02X %s %s %s %d %s %s %s %s\n" % (
+def look_count(rows, row):
+    """How many rows the rule of halving (R1.8) looks at for the key of a row."""
+    low, high, count = 0, len(rows), 1
+    while (middle := low + (high - low) // 2) != rows.index(row):
+        low, high = (middle + 1, high) if key(rows[middle]) < key(row) else (low, middle)
+        count += 1
+    return count
+
+
+def printed(row, looks):
+    return "%04X %02X %s %s %s %d %s %s %s %s %d\n" % (
         row["index"], row["sub"], row["kind"], row["access"], "NV" if row["nv"] else "-", row["len"],
-        place_shown(row), shown(row, "low"), shown(row, "high"), shown(row, "def"))
+        place_shown(row), shown(row, "low"), shown(row, "high"), shown(row, "def"), looks)
 
 
 def accesses(rows):
@@ -443,7 +452,8 @@ def columns_rt(rows, end):
     words = default_words(rows, end)
     nv = nv_rows(rows)
     columns = [
-        ("KEY", "u32", [key(r) for r in rows]),
+        ("INDEX", "u16", [r["index"] for r in rows]),
+        ("SUB", "u8", [r["sub"] for r in rows]),
         ("SHAPE", "u16", [shape(r) for r in rows]),
         ("PLACING", "u16", [r["place"] + VALUES * number for r, number in zip(rows, numbers)]),
         ("DEFAULT", "u32", [r["def"] for r in rows]),
@@ -459,10 +469,9 @@ def columns_rt(rows, end):
         ("NV_HIGH", "u32", [rank(r, r["high"]) if is_number(r) else 2**32 - 1 for r in nv]),
     ]
     text = """// The object table as flat constant arrays. tools/table.py writes this file from docs/object-table.md.
-// A column that is read is laid out on the stack, so columns are few and narrow: KEY has for each row index and subindex in one number,
-// SHAPE type, access, NV mark and length, and PLACING its place in the values and the number of its limits in MINIMUM and MAXIMUM, since
-// few pairs serve all rows. A ULINT's limits are not there: it takes every number. WORD_PLACE and WORD have the words that make the
-// defaults out of zeros.
+// A column that is read is laid out on the stack, so columns are few and narrow: INDEX and SUB have each row's key, SHAPE its type, access,
+// NV mark and length, and PLACING its place in the values and the number of its limits in MINIMUM and MAXIMUM, since few pairs serve all
+// rows. A ULINT's limits are not there: it takes every number. WORD_PLACE and WORD have the words that make the defaults out of zeros.
 // NV_.. has the NV rows alone: the bit of the saved block at which each entry begins (and the last ends), and its limits as places in
 // the order of its type. NV_CUT has the bits that are looked at as a number: of a string the first 32, which its NV_LOW and NV_HIGH do
 // not refuse. MINIMUM and MAXIMUM are places in that order too.
@@ -472,14 +481,7 @@ pub const NV_ROWS: usize = %d;
 
 // The bit of the saved block behind the last entry.
 pub const NV_END: usize = %d;
-
-// Cells that are asked for by themselves: of the first row, and the last keys before each page.
-pub const FIRST_KEY: u32 = %d;
-
-pub const FIRST_SHAPE: u16 = %d;
-""" % (len(rows), len(nv), block_end(rows), key(rows[0]), shape(rows[0]))
-    for row in (31, 63, 95, 127):
-        text += "\npub const KEY_%d: u32 = %d;\n" % (row, key(rows[row]))
+""" % (len(rows), len(nv), block_end(rows))
     for name, kind, cells in columns:
         text += "\npub const %s: [%s; %d] = [\n%s];\n" % (name, kind, len(cells), "".join("    %d,\n" % c for c in cells))
     return text
@@ -511,7 +513,7 @@ def files_of(page, rows, end):
         "crates/table/specs/Places.antt": places_antt(rows),
         "crates/table/src/place.rt": place_rt(rows),
         "crates/table/src/row.rt": row_rt(rows),
-        "crates/rows/stdout": "".join(printed(row) for row in rows),
+        "crates/rows/stdout": "".join(printed(row, look_count(rows, row)) for row in rows),
     }
 
 
@@ -536,8 +538,9 @@ def main(words):
         sys.exit("not what docs/object-table.md gives (run tools/table.py): " + ", ".join(stale))
     for name, text in stale.items():
         write(name, text)
-    print("%d rows, %d bytes of values, %d bits of the saved block" % (
-        len(rows), end, block_end(rows)))
+    looks = [look_count(rows, row) for row in rows]
+    print("%d rows, %d bytes of values, %d bits of the saved block; at most %d looks for a row, %.2f in the mean" % (
+        len(rows), end, block_end(rows), max(looks), sum(looks) / len(rows)))
 
 
 if __name__ == "__main__":

@@ -19,7 +19,8 @@ fn the_page_and_the_printed_rows_are_alike() {
             format!("{:04X} {:02X} {} {} {nv} {} {place} {low} {high} {default}", l.index, l.sub, l.kind, l.access, l.length)
         })
         .collect();
-    let printed: Vec<&str> = ROWS_PRINTED.lines().collect();
+    // the last column is the search's, and the test `search` has it
+    let printed: Vec<&str> = ROWS_PRINTED.lines().map(|line| line.rsplit_once(' ').unwrap().0).collect();
     assert_eq!(page, printed);
     println!("{} rows", page.len());
 }

@@ -16,9 +16,7 @@ use Rattle.order.proofs.Kept.{demand3-records}
 use Rattle.table.specs.Row.{Row, RO, WO, CARD, COMMAND, smallest, largest}
 use Rattle.table.specs.Rows.{row-count, at-row}
 use Rattle.table.specs.Rule.{held}
-use Rattle.table.specs.Find.{find-row, row-number}
-use Rattle.table.specs.declared.Found.{Found}
-use Rattle.table.specs.declared.Found.the-variants.{At, NoIndex, NoSub}
+use Rattle.table.specs.Find.{Found, At, NoIndex, NoSub, find-row, row-number}
 use Rattle.table.proofs.Lengths.{room-allowed, allowed-room}
 use Rattle.table.proofs.Table.{row-rule, find-at}
 use Rattle.limits.specs.Limits.{verdict-code}

@@ -4,17 +4,15 @@ pub mod columns;
 pub mod field;
 mod page;
 
-use table::Found;
 use table::code;
-use wire::wide;
 ghost use mathlib.Core.Path.{_≡_};
-ghost use Prim.Native.Nat.{_+_, _/_, _≤_};
-ghost use lib.Dec.{eqb};
-ghost use Rattle.table.specs.Rows.{at-row};
-ghost use Rattle.table.specs.Rule.{key as row-key};
-ghost use Rattle.find.specs.Columns.{column};
+ghost use Prim.Native.Nat.{_+_, _≤_};
+ghost use Rattle.table.specs.Row.{Row};
+ghost use Rattle.table.specs.Rows.{row-count};
 ghost use Rattle.table.specs.Find.{absence, find-row};
-ghost use Rattle.find.specs.Search.{find-key, gate-by, Near};
+ghost use Rattle.table.specs.Halve.{look-count};
+ghost use Rattle.find.specs.Columns.{column};
+ghost use Rattle.find.specs.Search.{gate-by, number-of, found-by, Numbered, search-number};
 
 pub const ROWS: usize = columns::ROWS;
 
@@ -24,190 +22,115 @@ pub enum Gate {
     Shut(u32),
 }
 
-// Row base + at is below the key: so is the row a step on, or it is not. Where the row two steps on is not, one hop is enough. Keys rise.
-// Base and at are two numbers, so that the compiler sees how far hops lead from a base that it knows.
-fn hop(keys: &[u32], base: usize, at: usize, step: usize, key: u32) -> usize
-    requires { ⌜ (now keys ≡ column row-key) × (step ≤ 256) × Near (step + step) (base + at) key ⌝ }
-    ensures { λ r. ⌜ Near step (base + (at + r)) key ⌝ }
+// What a search comes to is one number: how many rows were looked at, times 1,024, and the row, or one of these two, which are no row's.
+// Where the count is not asked for, the compiler leaves it out.
+const NO_INDEX: u32 = 512;
+
+const NO_SUB: u32 = 513;
+
+// No row is left. Had one that was looked at the index?
+fn absent(seen: bool) -> u32
+    ensures { λ r. ⌜ r ≡ number-of (absence seen) ⌝ }
 {
-    let to = base + at + step;
-    if to < ROWS {
-        if keys[to] < key {
-            return step;
+    if seen {
+        return NO_SUB;
+    }
+    NO_INDEX
+}
+
+// So many rows are left, from low on. The middle one is looked at, and a half of the others is left. The columns are lent, so that they are
+// laid out once for all looks. `% 512` tells the compiler that a row's number is none of the two above, and `looked` is bounded so that the
+// answer fits.
+fn halve(
+    indices: &[u16; ROWS],
+    subs: &[u8; ROWS],
+    low: usize,
+    left: usize,
+    index: u16,
+    sub: u8,
+    seen: bool,
+    looked: u32,
+) -> u32
+    requires { ⌜ (now indices ≡ column (λ (r : Row). r .index)) × (now subs ≡ column (λ (r : Row). r .sub)) × (low + left ≤ row-count) × (looked + left ≤ 511) ⌝ }
+    ensures { λ r. ⌜ r ≡ search-number index sub seen low left looked ⌝ }
+{
+    if left == 0 {
+        return looked * 1024 + absent(seen);
+    }
+    let half = left / 2;
+    let middle = low + half;
+    let row_index = indices[middle];
+    if row_index == index {
+        let row_sub = subs[middle];
+        if row_sub == sub {
+            return (looked + 1) * 1024 + (middle % 512) as u32;
         }
+        if row_sub < sub {
+            let next = middle + 1;
+            let rest = left - half - 1;
+            return halve(indices, subs, next, rest, index, sub, true, looked + 1);
+        }
+        return halve(indices, subs, low, half, index, sub, true, looked + 1);
     }
-    0
+    if row_index < index {
+        let next = middle + 1;
+        let rest = left - half - 1;
+        return halve(indices, subs, next, rest, index, sub, seen, looked + 1);
+    }
+    halve(indices, subs, low, half, index, sub, seen, looked + 1)
 }
 
-// No row has the key. Has the index a row? Then the row next to where the key would stand has it.
-fn absent(next: u32, key: u32) -> Found
-    ensures { λ r. ⌜ r ≡ absence (eqb (next / 256) (key / 256)) ⌝ }
+// The gate of what is found.
+fn gate_of(number: u32) -> Gate
+    requires { ⌜ Numbered number ⌝ }
+    ensures { λ r. ⌜ r ≡ gate-by (found-by number) ⌝ }
 {
-    if next / 256 == key / 256 {
-        return Found::NoSub;
-    }
-    Found::NoIndex
-}
-
-// What is found behind the last row that is below the key.
-fn found_behind(keys: &[u32], last: usize, key: u32) -> Found
-    requires { ⌜ (now keys ≡ column row-key) × Near 1 last key ⌝ }
-    ensures { λ r. ⌜ r ≡ find-key key ⌝ }
-{
-    let row = last + 1;
-    if ROWS <= row {
-        return absent(keys[last], key);
-    }
-    if keys[row] == key {
-        return Found::At(row);
-    }
-    if keys[row] / 256 == key / 256 {
-        return Found::NoSub;
-    }
-    absent(keys[last], key)
-}
-
-// Row base is below the key and the row 32 rows on is not. The column is lent, so that it is laid out once for all hops.
-fn search(keys: &[u32], base: usize, key: u32) -> Found
-    requires { ⌜ (now keys ≡ column row-key) × Near 32 base key ⌝ }
-    ensures { λ r. ⌜ r ≡ find-key key ⌝ }
-{
-    let a = hop(keys, base, 0, 16, key);
-    let b = a + hop(keys, base, a, 8, key);
-    let c = b + hop(keys, base, b, 4, key);
-    let d = c + hop(keys, base, c, 2, key);
-    let at = d + hop(keys, base, d, 1, key);
-    found_behind(keys, base + at, key)
-}
-
-// From row 128 on. No table has more than 511 rows.
-fn search_rest(keys: &[u32], key: u32) -> Found
-    requires { ⌜ (now keys ≡ column row-key) × Near 512 127 key ⌝ }
-    ensures { λ r. ⌜ r ≡ find-key key ⌝ }
-{
-    let a = hop(keys, 127, 0, 256, key);
-    let b = a + hop(keys, 127, a, 128, key);
-    let c = b + hop(keys, 127, b, 64, key);
-    let d = c + hop(keys, 127, c, 32, key);
-    search(keys, 127 + d, key)
-}
-
-// ---- by pages: each function lays out the keys and shapes of its own rows, as in page.rt, and reads none for a key in an area without
-// rows. On a page that lies inside areas with rows the compiler sees the answer and leaves the question out.
-
-fn find_from_0(key: u32) -> Gate
-    requires { ⌜ Near 31 0 key ⌝ }
-    ensures { λ r. ⌜ r ≡ gate-by (find-key key) ⌝ }
-{
-    if area::is_empty(key) {
+    if number == NO_INDEX {
         return Gate::Shut(code::INDEX_ABSENT);
     }
-    let found = search(&columns::KEY, 0, key);
-    match found {
-        Found::At(row) => Gate::Open(row, page::shape_from_0(row)),
-        Found::NoIndex => Gate::Shut(code::INDEX_ABSENT),
-        Found::NoSub => Gate::Shut(code::SUBINDEX_ABSENT),
-    }
-}
-
-fn find_from_32(key: u32) -> Gate
-    requires { ⌜ Near 32 31 key ⌝ }
-    ensures { λ r. ⌜ r ≡ gate-by (find-key key) ⌝ }
-{
-    if area::is_empty(key) {
-        return Gate::Shut(code::INDEX_ABSENT);
-    }
-    let found = search(&columns::KEY, 31, key);
-    match found {
-        Found::At(row) => Gate::Open(row, page::shape_from_32(row)),
-        Found::NoIndex => Gate::Shut(code::INDEX_ABSENT),
-        Found::NoSub => Gate::Shut(code::SUBINDEX_ABSENT),
-    }
-}
-
-fn find_from_64(key: u32) -> Gate
-    requires { ⌜ Near 32 63 key ⌝ }
-    ensures { λ r. ⌜ r ≡ gate-by (find-key key) ⌝ }
-{
-    if area::is_empty(key) {
-        return Gate::Shut(code::INDEX_ABSENT);
-    }
-    let found = search(&columns::KEY, 63, key);
-    match found {
-        Found::At(row) => Gate::Open(row, page::shape_from_64(row)),
-        Found::NoIndex => Gate::Shut(code::INDEX_ABSENT),
-        Found::NoSub => Gate::Shut(code::SUBINDEX_ABSENT),
-    }
-}
-
-fn find_from_96(key: u32) -> Gate
-    requires { ⌜ Near 32 95 key ⌝ }
-    ensures { λ r. ⌜ r ≡ gate-by (find-key key) ⌝ }
-{
-    if area::is_empty(key) {
-        return Gate::Shut(code::INDEX_ABSENT);
-    }
-    let found = search(&columns::KEY, 95, key);
-    match found {
-        Found::At(row) => Gate::Open(row, page::shape_from_96(row)),
-        Found::NoIndex => Gate::Shut(code::INDEX_ABSENT),
-        Found::NoSub => Gate::Shut(code::SUBINDEX_ABSENT),
-    }
-}
-
-fn find_from_128(key: u32) -> Gate
-    requires { ⌜ Near 512 127 key ⌝ }
-    ensures { λ r. ⌜ r ≡ gate-by (find-key key) ⌝ }
-{
-    if area::is_empty(key) {
-        return Gate::Shut(code::INDEX_ABSENT);
-    }
-    let found = search_rest(&columns::KEY, key);
-    match found {
-        Found::At(row) => Gate::Open(row, page::shape_from_128(row)),
-        Found::NoIndex => Gate::Shut(code::INDEX_ABSENT),
-        Found::NoSub => Gate::Shut(code::SUBINDEX_ABSENT),
-    }
-}
-
-// No row is below the key.
-fn find_first(key: u32) -> Gate
-    requires { ⌜ key ≤ row-key (at-row 0) ⌝ }
-    ensures { λ r. ⌜ r ≡ gate-by (find-key key) ⌝ }
-{
-    if columns::FIRST_KEY == key {
-        return Gate::Open(0, columns::FIRST_SHAPE);
-    }
-    if columns::FIRST_KEY / 256 == key / 256 {
+    if number == NO_SUB {
         return Gate::Shut(code::SUBINDEX_ABSENT);
     }
-    Gate::Shut(code::INDEX_ABSENT)
+    let row = number as usize;
+    Gate::Open(row, field::shape_of(row))
 }
 
-fn find_key(key: u32) -> Gate
-    ensures { λ r. ⌜ r ≡ gate-by (find-key key) ⌝ }
+// What a search comes to, and how many rows it looked at.
+pub struct Search {
+    pub gate: Gate,
+    pub looked: u32,
+}
+
+// A key is searched for by halves in all rows.
+pub fn find_counted(index: u16, sub: u8) -> Search
+    ensures gate { λ r. ⌜ r .gate ≡ gate-by (find-row index sub) ⌝ }
+    ensures looked { λ r. ⌜ r .looked ≡ look-count index sub ⌝ }
+    ensures most { λ r. ⌜ r .looked ≤ 9 ⌝ }
 {
-    if columns::KEY_63 < key {
-        if columns::KEY_127 < key {
-            return find_from_128(key);
-        }
-        if columns::KEY_95 < key {
-            return find_from_96(key);
-        }
-        return find_from_64(key);
+    let number = halve(
+        &columns::INDEX,
+        &columns::SUB,
+        0,
+        ROWS,
+        index,
+        sub,
+        false,
+        0,
+    );
+    Search {
+        gate: gate_of(number % 1024),
+        looked: number / 1024,
     }
-    if columns::KEY_31 < key {
-        return find_from_32(key);
-    }
-    if columns::FIRST_KEY < key {
-        return find_from_0(key);
-    }
-    find_first(key)
 }
 
-// By index and subindex: a row is open, and the code of a shut gate says which of the two is absent.
+// By index and subindex: a row is open, and the code of a shut gate says which of the two is absent. In an area without rows nothing is
+// searched for.
 pub fn find(index: u16, sub: u8) -> Gate
     ensures { λ r. ⌜ r ≡ gate-by (find-row index sub) ⌝ }
 {
-    find_key((index as u32) * 256 + wide::to_u32(sub))
+    if area::is_empty(index) {
+        return Gate::Shut(code::INDEX_ABSENT);
+    }
+    let search = find_counted(index, sub);
+    search.gate
 }

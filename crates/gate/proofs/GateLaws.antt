@@ -7,10 +7,8 @@ use lib.Dec.{eqb}
 use borrow.Author.Tests.{eqb-false, eq-eqb, ne-eqb}
 use Rattle.table.specs.Rows.{at-row}
 use Rattle.find.specs.Columns.{shape, access-in}
-use Rattle.table.specs.Find.{find-row}
+use Rattle.table.specs.Find.{Found, At, NoIndex, NoSub, find-row}
 use Rattle.find.specs.Search.{gate-by}
-use Rattle.table.specs.declared.Found.{Found}
-use Rattle.table.specs.declared.Found.the-variants.{At, NoIndex, NoSub}
 use Rattle.table.proofs.Table.{find-at}
 use Rattle.find.proofs.Way.{open-row}
 use Rattle.find.proofs.Shapes.{access-told}

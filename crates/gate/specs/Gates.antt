@@ -6,8 +6,7 @@ use lib.Dec.{eqb}
 use Rattle.table.specs.Row.{RO, WO}
 use Rattle.table.specs.Rows.{at-row}
 use Rattle.find.specs.Columns.{shape}
-use Rattle.table.specs.declared.Found.{Found}
-use Rattle.table.specs.declared.Found.the-variants.{At, NoIndex, NoSub}
+use Rattle.table.specs.Find.{Found, At, NoIndex, NoSub}
 use Rattle.table.specs.Codes.{index-absent, subindex-absent, write-only, read-only}
 use Rattle.find.specs.declared.Gate.{Gate}
 use Rattle.find.specs.declared.Gate.the-variants.{Open, Shut}

@@ -10,9 +10,7 @@ use Rattle.order.specs.Talk.{unsaid, Read, value, denied, Sizes, sizes, closed,
 use Rattle.order.specs.Gauge.{counted}
 use Rattle.table.specs.Row.{RO, WO, smallest, largest}
 use Rattle.table.specs.Rows.{at-row}
-use Rattle.table.specs.Find.{find-row, row-number}
-use Rattle.table.specs.declared.Found.{Found}
-use Rattle.table.specs.declared.Found.the-variants.{At, NoIndex, NoSub}
+use Rattle.table.specs.Find.{Found, At, NoIndex, NoSub, find-row, row-number}
 use Rattle.gate.specs.Gates.{Way, to-row, no-way, gate, read-gate, write-gate}
 use Rattle.gauge.specs.Memory.{Store}
 use Rattle.gauge.specs.Checks.{asked, asked-key, Test, no-such-index, no-such-subindex, only-written, only-read, code-of, is-no-index, is-no-sub, fails, read-order, key-order, last-order, refused-by, unless-refused}

@@ -10,8 +10,7 @@ use lib.Dec.{ltb}
 use lib.ListN.{length, getD}
 use Rattle.order.specs.Talk.{Said, announced, unsaid, own, Sizes, sizes, closed, Outcome, declined}
 use Rattle.order.specs.Gauge.{Gauge, too-long, too-short, narrowed, narrow, counted, by-length, judged, judged-by, write-whole}
-use Rattle.table.specs.Find.{find-row}
-use Rattle.table.specs.declared.Found.{Found}
+use Rattle.table.specs.Find.{Found, find-row}
 use Rattle.table.specs.Row.{smallest, largest}
 use Rattle.limits.specs.Limits.{verdict-code}
 use Rattle.gauge.specs.Memory.{Memory, Store}

@@ -10,9 +10,7 @@ use Rattle.order.specs.Talk.{Said, announced, unsaid, own}
 use Rattle.order.specs.Gauge.{too-long, too-short, counted}
 use Rattle.table.specs.Row.{Row, smallest, largest, RO, WO, CARD}
 use Rattle.table.specs.Rows.{at-row}
-use Rattle.table.specs.Find.{row-number}
-use Rattle.table.specs.declared.Found.{Found}
-use Rattle.table.specs.declared.Found.the-variants.{At, NoIndex, NoSub}
+use Rattle.table.specs.Find.{Found, At, NoIndex, NoSub, row-number}
 use Rattle.table.specs.Codes.{index-absent, subindex-absent, write-only, read-only, lock-shut}
 use Rattle.gate.specs.Lock.{locked}
 use Rattle.limits.specs.Limits.{verdict-code, row-verdict}

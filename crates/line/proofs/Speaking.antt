@@ -12,8 +12,7 @@ use Rattle.order.specs.Serve.{Served, keeping, read-opening, read-part, write-o
 use Rattle.table.specs.Row.{RO, smallest, largest}
 use Rattle.table.specs.Rows.{at-row}
 use Rattle.table.specs.Codes.{read-only}
-use Rattle.table.specs.Find.{find-row}
-use Rattle.table.specs.declared.Found.the-variants.{At}
+use Rattle.table.specs.Find.{At, find-row}
 use Rattle.table.proofs.Table.{find-at}
 use Rattle.find.specs.Columns.{shape}
 use Rattle.find.specs.declared.Gate.{Gate}

@@ -1,5 +1,6 @@
 // Prints the object table from the proved functions, one row to a line: index, subindex, type, access, NV mark, length, place,
-// minimum, maximum, default. Numbers are in capital hex, length and place in decimal; a dash stands where a row has none.
+// minimum, maximum, default, and how many rows the search looks at for its key. Numbers are in capital hex, length, place and count in
+// decimal; a dash stands where a row has none.
 use find::field;
 use io::print_decimal;
 use io::write_all;
@@ -97,12 +98,11 @@ fn print_number(row: usize, kind: u8, len: usize)
     requires { ⌜ (row < row-count) × (kind ≡ at-row row .kind) ⌝ }
 {
     if 8 < len {
-        write_all(STDOUT_FILENO, b" - - -\n");
+        write_all(STDOUT_FILENO, b" - - -");
         return;
     }
     print_limits(row, kind, 2 * len);
     print_hex(field::def_of(row), 2 * len);
-    write_all(STDOUT_FILENO, b"\n");
 }
 
 fn print_row(row: usize)
@@ -115,6 +115,7 @@ fn print_row(row: usize)
     print_kind(kind);
     print_access(field::access_of(row), field::nv_of(row));
     print_extent(row, kind);
+    print_looks(field::index_of(row), field::sub_of(row));
 }
 
 // Length and place, and what only numbers have.
@@ -132,8 +133,15 @@ fn print_extent(row: usize, kind: u8)
     if kind < kind::STRING {
         print_number(row, kind, len);
     } else {
-        write_all(STDOUT_FILENO, b" - - -\n");
+        write_all(STDOUT_FILENO, b" - - -");
     }
+}
+
+fn print_looks(index: u16, sub: u8) {
+    let search = find::find_counted(index, sub);
+    write_all(STDOUT_FILENO, b" ");
+    print_decimal(STDOUT_FILENO, wide::word_to_u64(search.looked));
+    write_all(STDOUT_FILENO, b"\n");
 }
 
 fn main() {

@@ -1,5 +1,5 @@
 -- The area that an index lies in, and that an index of an area without rows is absent. Assumes nothing.
-use mathlib.Core.Path.{_≡_, refl}
+use mathlib.Core.Path.{_≡_}
 use mathlib.Core.Bool.{Bool, true, not}
 use mathlib.Core.List.{List, [], _∷_}
 use mathlib.Core.Logic.{⊎-elim}
@@ -12,8 +12,7 @@ use borrow.Author.Tests.{lt-leb, le-leb}
 use Rattle.table.specs.Row.{Row, no-row}
 use Rattle.table.specs.Rows.{rows}
 use Rattle.table.specs.Walk.{every, linked, chain}
-use Rattle.table.specs.Find.{find-row}
-use Rattle.table.specs.declared.Found.the-variants.{NoIndex}
+use Rattle.table.specs.Find.{NoIndex, find-row}
 use Rattle.table.proofs.Walks.{every-at, chain-far, lt-or-ge}
 use Rattle.table.proofs.Table.{no-index-find}
 use Rattle.table.proofs.Searched.{No-index}
@@ -29,11 +28,6 @@ area-k [] k i h below up = absurd (not-suc-le-zero h)
 area-k (a ∷ xs) zero i h below up = rw (le-leb i (a .last) up)
 area-k (a ∷ xs) (suc k) i h below up =
     rw (lt-leb i (a .last) (below 0 (omega arith))) (area-k xs k i (le-of-suc-le-suc h) (λ j l. below (suc j) (omega arith)) up)
-
-no-area : (xs : List Area) (i : ℕ) → ((j : ℕ) → j < length xs → at-area xs j .last < i) → empty-in xs i ≡ true
-unfolding empty-in
-no-area [] i below = refl
-no-area (a ∷ xs) i below = rw (lt-leb i (a .last) (below 0 (omega arith))) (no-area xs i (λ j l. below (suc j) (omega arith)))
 
 abbrev rising : Area → Area → Bool
 rising a b = ltb (a .last) (b .last)
@@ -53,12 +47,9 @@ module _ (k i : ℕ) (there : k < length areas) (low : at-area areas k .last < i
       (λ (a : k ≤ j). let e : j ≡ k = omega arith in rw e low)
       (lt-or-ge j k)
 
-  -- behind area k the next one decides, up to its last index; there is nothing behind the last area
+  -- behind area k the next one decides, up to its last index
   pub next-area : suc k < length areas → i ≤ at-area areas (suc k) .last → in-empty-area i ≡ at-area areas (suc k) .empty
   next-area h up = area-k areas (suc k) i h behind up
-
-  pub behind-all : length areas ≡ suc k → in-empty-area i ≡ true
-  behind-all e = no-area areas i (λ j l. behind j (omega arith))
 
 -- computed once over the table: no row lies in an empty area
 rows-in-areas : T (every (λ (r : Row). not (in-empty-area (r .index))) rows)

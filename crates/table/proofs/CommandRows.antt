@@ -10,8 +10,7 @@ use Rattle.table.specs.Row.{Row, no-row, COMMAND}
 use Rattle.table.specs.Rows.{rows, row-count, at-row}
 use Rattle.table.specs.Walk.{every}
 use Rattle.table.specs.Rule.{pick}
-use Rattle.table.specs.Find.{find-row}
-use Rattle.table.specs.declared.Found.the-variants.{At}
+use Rattle.table.specs.Find.{At, find-row}
 use Rattle.table.proofs.Walks.{every-at, same-or-not}
 use Rattle.table.proofs.Table.{rows-length, find-at, row-found}
 

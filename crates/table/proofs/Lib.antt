@@ -1,9 +1,10 @@
 pub mod Walks
+pub mod Searched
 pub mod Rules
 pub mod Widths
 pub mod Lengths
-pub mod Searched
 pub mod Table
+pub mod Halving
 pub mod Areas
 pub mod Placed
 pub mod CommandRows

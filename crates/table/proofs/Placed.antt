@@ -8,10 +8,8 @@ use Rattle.table.specs.Row.{Row}
 use Rattle.table.specs.Rows.{rows, at-row}
 use Rattle.table.specs.Walk.{both, every}
 use Rattle.table.specs.Rule.{pick, held}
-use Rattle.table.specs.Find.{find-from, find-row}
+use Rattle.table.specs.Find.{Found, At, NoIndex, NoSub, find-from, find-row}
 use Rattle.table.specs.Places.{Placed, named-places, latched-status, latched-size, latched}
-use Rattle.table.specs.declared.Found.{Found}
-use Rattle.table.specs.declared.Found.the-variants.{At, NoIndex, NoSub}
 
 -- the found row has the place and the length
 unfoldable pub stands : Placed → Found → Bool

@@ -1,8 +1,8 @@
 -- The table's rule at each row, for ANY table that passes the one test. Assumes nothing.
-use mathlib.Core.Path.{_≡_}
+use mathlib.Core.Path.{_≡_, refl, ap, subst}
 use mathlib.Core.Bool.{Bool, true, false}
 use mathlib.Core.List.{List}
-use mathlib.Core.Logic.{_⊎_, inl, inr, ⊎-elim}
+use mathlib.Core.Logic.{_⊎_, inl, inr}
 use Prim.Native.Nat.{ℕ, _+_, _*_, _%_, _^_, _≤_, _<_}
 use native.Mathlib.Omega.{arith}
 use lib.Dec.{T, leb, ltb, eqb, leb→le, ltb→lt, eqb→eq}
@@ -11,7 +11,9 @@ use borrow.Author.Tests.{eq-eqb, le-leb}
 use Rattle.table.specs.Row.{Row, no-row, BOOL, ULINT, REAL, STRING}
 use Rattle.table.specs.Walk.{every, chain}
 use Rattle.table.specs.Rule.{pick, key, held, block-sum, is-number, rank, finite-pattern, width-of, row-tests, row-ok, next-ok, table-ok}
-use Rattle.table.proofs.Walks.{nth, both-left, both-right, every-at, chain-far, lt-or-ge}
+use Rattle.table.specs.Find.{Found, At, NoIndex, NoSub, find-from}
+use Rattle.table.proofs.Searched.{Has, at-has, no-index, no-sub}
+use Rattle.table.proofs.Walks.{nth, both-left, both-right, every-at, chain-far, by-order}
 
 -- the rule of one row
 pub record RowRule (r : Row) : Type 0 where
@@ -113,14 +115,23 @@ module _ (xs : List Row) (pass : T (table-ok xs)) where
   -- two rows with one key are one row
   pub one-row : (j k : ℕ) → j < length xs → k < length xs → key (getD xs j no-row) ≡ key (getD xs k no-row) → j ≡ k
   one-row j k hj hk e =
-      ⊎-elim (λ l. absurd (let b = before-at j k l hk in omega arith))
-      (λ g. ⊎-elim (λ l. absurd (let b = before-at k j l hj in omega arith)) (λ g'. omega arith) (lt-or-ge k j))
-      (lt-or-ge j k)
+      by-order j k (λ l. absurd (let b = before-at j k l hk in omega arith)) (λ q. q) (λ l. absurd (let b = before-at k j l hj in omega arith))
+
+  -- each row is found by its key: at most one row has it
+  pub found-once : (i s m : ℕ) → Has xs i s m → find-from xs 0 false i s ≡ At m
+  unfolding key
+  found-once i s m k = go (find-from xs 0 false i s) refl
+    where
+      go : (f : Found) → find-from xs 0 false i s ≡ f → f ≡ At m
+      go (At q) e =
+          let a = at-has xs 0 false i s q e in
+          let z : a .0 ≡ q = omega arith in
+          let h : Has xs i s q = subst (Has xs i s) z (a .2) in
+          ap At (one-row q m (h .there) (k .there) (omega arith))
+      go NoIndex e = absurd (no-index xs 0 false i s e m (k .there) (k .index-is))
+      go NoSub e = absurd (no-sub xs 0 false i s e m (k .there) (k .index-is) (k .sub-is))
 
   -- two different rows' bytes are disjoint
   pub apart-at : (j k : ℕ) → j < length xs → k < length xs → (j ≡ k → ⊥)
       → (getD xs j no-row .place + held (getD xs j no-row) ≤ getD xs k no-row .place) ⊎ (getD xs k no-row .place + held (getD xs k no-row) ≤ getD xs j no-row .place)
-  apart-at j k hj hk d =
-      ⊎-elim (λ l. inl (before-at j k l hk .apart))
-      (λ g. ⊎-elim (λ l. inr (before-at k j l hj .apart)) (λ g'. absurd (d (omega arith))) (lt-or-ge k j))
-      (lt-or-ge j k)
+  apart-at j k hj hk d = by-order j k (λ l. inl (before-at j k l hk .apart)) (λ e. absurd (d e)) (λ l. inr (before-at k j l hj .apart))

@@ -10,8 +10,7 @@ use lib.Dec.{eqb}
 use lib.ListN.{length, getD}
 use borrow.Author.Tests.{eqb-true, eqb-false, eq-eqb, ne-eqb}
 use Rattle.table.specs.Row.{Row, no-row}
-use Rattle.table.specs.Find.{find-from, absence, choose}
-use Rattle.table.specs.declared.Found.the-variants.{At, NoIndex, NoSub}
+use Rattle.table.specs.Find.{At, NoIndex, NoSub, find-from, absence, choose}
 
 -- row m of the list has the key
 pub record Has (xs : List Row) (i s m : ℕ) : Type 0 where

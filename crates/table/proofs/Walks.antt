@@ -3,9 +3,10 @@ use mathlib.Core.Bool.{Bool, true, false}
 use mathlib.Core.List.{List, [], _∷_}
 use Prim.Native.Nat.{ℕ, zero, suc, _<_, _≤_}
 use native.Mathlib.Nat.{le-of-suc-le-suc, not-suc-le-zero}
+use native.Mathlib.Omega.{arith}
 use lib.Dec.{T, ltb, eqb}
 use mathlib.Core.Path.{_≡_, refl}
-use mathlib.Core.Logic.{_⊎_, inl, inr}
+use mathlib.Core.Logic.{_⊎_, inl, inr, ⊎-elim}
 use borrow.Author.Tests.{ltb-true, ltb-false, eqb-true, eqb-false}
 use lib.ListN.{length, getD}
 use Rattle.table.specs.Walk.{both, all, every, linked, chain}
@@ -16,6 +17,10 @@ lt-or-ge m n = go (ltb m n) refl
     go : (b : Bool) → ltb m n ≡ b → (m < n) ⊎ (n ≤ m)
     go true e = inl (ltb-true m n e)
     go false e = inr (ltb-false m n e)
+
+-- the order of two numbers
+pub by-order : {A : Type 0} (a b : ℕ) → (a < b → A) → (a ≡ b → A) → (b < a → A) → A
+by-order a b less same more = ⊎-elim less (λ g. ⊎-elim more (λ g'. same (omega arith)) (lt-or-ge b a)) (lt-or-ge a b)
 
 pub same-or-not : (a b : ℕ) → (a ≡ b) ⊎ (a ≡ b → ⊥)
 same-or-not a b = go (eqb a b) refl

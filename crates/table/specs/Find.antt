@@ -6,8 +6,12 @@ use Prim.Native.Nat.{ℕ, suc}
 use lib.Dec.{eqb}
 use Rattle.table.specs.Row.{Row}
 use Rattle.table.specs.Rows.{rows, row-count}
-use Rattle.table.specs.declared.Found.{Found}
-use Rattle.table.specs.declared.Found.the-variants.{At, NoIndex, NoSub}
+
+-- what the way to a row comes to
+pub data Found : Type 0 where
+  At : ℕ → Found
+  NoIndex : Found
+  NoSub : Found
 
 -- no row has the key: was its index seen?
 abbrev pub absence : Bool → Found

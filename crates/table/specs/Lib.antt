@@ -4,5 +4,6 @@ pub mod Rows
 pub mod Walk
 pub mod Rule
 pub mod Find
+pub mod Halve
 pub mod Places
 pub mod Areas

@@ -4,10 +4,3 @@ pub mod code;
 pub mod kind;
 pub mod place;
 pub mod row;
-
-// What the way to a row comes to.
-pub enum Found {
-    At(usize),
-    NoIndex,
-    NoSub,
-}

@@ -16,9 +16,8 @@ use Rattle.order.specs.Talk.{Request, open-read, next-part, expedited, open-wri
 use Rattle.order.specs.Serve.{Form, over, read-part, keeping, write-part}
 use Rattle.table.specs.Rows.{row-count, at-row}
 use Rattle.table.specs.Row.{smallest, largest, Allowed}
-use Rattle.table.specs.Find.{find-row, row-number}
+use Rattle.table.specs.Find.{At, find-row, row-number}
 use Rattle.table.proofs.Lengths.{largest-is}
-use Rattle.table.specs.declared.Found.the-variants.{At}
 use Rattle.table.proofs.Table.{row-rule, find-at, row-found}
 use Rattle.sdo.specs.declared.Key.{Key}
 use Rattle.sdo.specs.Lines.{Entries, gauge}

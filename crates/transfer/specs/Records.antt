@@ -10,8 +10,7 @@ use Rattle.order.specs.Talk.{Request, open-read, next-part, expedited, open-wri
 use Rattle.order.specs.Keep.{Keeping}
 use Rattle.table.specs.Rows.{row-count, at-row}
 use Rattle.table.specs.Row.{RO, WO, smallest, largest, Allowed}
-use Rattle.table.specs.Find.{find-row, row-number}
-use Rattle.table.specs.declared.Found.the-variants.{At}
+use Rattle.table.specs.Find.{At, find-row, row-number}
 use Rattle.sdo.specs.declared.Key.{Key}
 use Rattle.sdo.specs.Lines.{Entries}
 use Rattle.transfer.specs.declared.Direction.{Direction}

@@ -1,9 +1,10 @@
-// Runs the proved card and block on vectors worked by hand, and prints "ok NAME" for each, or "DIFFERS NAME" where the function
-// gives something else. Beside each vector stands how its bytes come about, from docs/RULES.md, chapters 3 and 4, and the
+// Runs the proved card, block and search on vectors worked by hand, and prints "ok NAME" for each, or "DIFFERS NAME" where the function
+// gives something else. Beside each vector stands how its bytes come about, from docs/RULES.md, chapters 1, 3 and 4, and the
 // places and NV entries of docs/object-table.md.
 mod blocks;
 mod cards;
 mod report;
+mod searches;
 mod stores;
 
 fn main() {
@@ -16,4 +17,7 @@ fn main() {
     stores::stored();
     stores::refused();
     stores::back();
+    searches::rows();
+    searches::absent_indices();
+    searches::absent_subs();
 }

@@ -79,6 +79,10 @@ mutants! {
     ImageWithoutSummary: "the image's summary byte is zero",
     // table and limits
     NoSubindexIsNoIndex: "an absent subindex gives the code of an absent index",
+    OneLeftUnseen: "the search never looks at a row that is left alone",
+    SideByIndexAlone: "the search goes by the index alone and misses rows behind one that has it",
+    AbsenceByLastLook: "the last row looked at alone tells what is absent",
+    SeenForgotten: "an index that was seen is forgotten when the upper half is taken",
     NanAccepted: "a REAL that is not a number is accepted",
     NanIsAbove: "a REAL that is not a number gives 'above'",
     InfinityAccepted: "plus infinity is accepted where no range is printed",

@@ -1,6 +1,7 @@
 //! The object table, read at compile time from docs/object-table.md.
 
 use super::code;
+use super::fault::{Fault, Mutant::*};
 
 const PAGE: &[u8] = include_bytes!("../../../docs/object-table.md");
 
@@ -211,7 +212,7 @@ const ALL: [Row; COUNT] = {
     rows
 };
 
-static KEYS: [u32; COUNT] = {
+pub static KEYS: [u32; COUNT] = {
     let mut keys = [0; COUNT];
     let mut n = 0;
     while n < COUNT {
@@ -221,26 +222,47 @@ static KEYS: [u32; COUNT] = {
     keys
 };
 
-/// The row of a key, or the code for an absent index or subindex.
-#[inline]
-pub fn find(key: u32) -> Result<usize, u32> {
-    let (mut low, mut size) = (0, COUNT);
-    while size > 1 {
-        let half = size / 2;
-        if KEYS[low + half] <= key {
-            low += half;
+/// No row's key: keys have 24 bits.
+const NONE: u32 = u32::MAX;
+
+/// The row of a key by halves, or the code for an absent index or subindex, and the number of rows looked at. The keys rise.
+pub fn search<F: Fault>(f: F, keys: &[u32], key: u32) -> (Result<usize, u32>, u32) {
+    let (mut left, mut low, mut looks) = (keys, 0, 0);
+    // the nearest rows looked at; rows of one index stand together, so if any row looked at has the index, one of these has
+    let (mut below, mut above) = (NONE, NONE);
+    while let Some(&row) = left.get(left.len() / 2) {
+        let half = left.len() / 2;
+        if f.on(OneLeftUnseen) && left.len() == 1 {
+            break;
         }
-        size -= half;
+        looks += 1;
+        if row == key {
+            return (Ok(low + half), looks);
+        }
+        if f.on(AbsenceByLastLook) {
+            (below, above) = (NONE, NONE);
+        }
+        let before = if f.on(SideByIndexAlone) { row >> 8 < key >> 8 } else { row < key };
+        if before {
+            below = row;
+            low += half + 1;
+            left = &left[half + 1..];
+            if f.on(SeenForgotten) {
+                above = NONE;
+            }
+        } else {
+            above = row;
+            left = &left[..half];
+        }
     }
-    if KEYS[low] == key {
-        return Ok(low);
-    }
-    let index = key >> 8;
-    if KEYS[low] >> 8 == index || KEYS.get(low + 1).is_some_and(|k| k >> 8 == index) {
-        Err(code::NO_SUBINDEX)
-    } else {
-        Err(code::NO_INDEX)
-    }
+    let seen = below >> 8 == key >> 8 || above >> 8 == key >> 8;
+    (Err(if seen { code::NO_SUBINDEX } else { code::NO_INDEX }), looks)
+}
+
+/// The row of a key of this table. Inlined it would cost every message the registers that it needs.
+#[inline(never)]
+pub fn find<F: Fault>(f: F, key: u32) -> Result<usize, u32> {
+    search(f, &KEYS, key).0
 }
 
 /// The place of an entry that must be there, for constants.

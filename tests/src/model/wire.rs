@@ -171,7 +171,7 @@ fn open_read<F: Fault>(f: F, message: &[u8; 8], record: &mut Record, values: &Va
     } else {
         record.fill(0);
     }
-    let n = table::find(key).map_err(|code| Abort { key, code })?;
+    let n = table::find(f, key).map_err(|code| Abort { key, code })?;
     let row = &ROWS[n];
     if !row.readable {
         return Err(Abort { key, code: code::WRITE_ONLY });
@@ -241,7 +241,7 @@ fn open_write<F: Fault>(f: F, message: &[u8; 8], record: &mut Record, values: &m
     } else {
         record.fill(0);
     }
-    let n = table::find(key).map_err(abort)?;
+    let n = table::find(f, key).map_err(abort)?;
     let row = &ROWS[n];
     let (expedited, sized) = (message[0] & 2 != 0, message[0] & 1 != 0);
     let length = match (expedited, sized) {

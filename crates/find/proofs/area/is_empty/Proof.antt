@@ -1,8 +1,8 @@
 -- `find::area::is_empty`: each arm is an area. Assumes nothing.
-use mathlib.Core.Path.{refl, sym}
+use mathlib.Core.Path.{sym}
 use native.Mathlib.Omega.{arith}
 use Rattle.table.specs.Areas.{areas}
-use Rattle.table.proofs.Areas.{first-area, next-area, behind-all}
+use Rattle.table.proofs.Areas.{first-area, next-area}
 use Rattle.find.proofs.area.is_empty.Statement.{statement}
 use Rattle.find.proofs.area.is_empty.Tie as tie
 
@@ -42,9 +42,5 @@ returns-9 : tie.Need-returns-9
 unfolding areas
 returns-9 c = sym (next-area 7 _ (omega arith) (omega arith) (omega arith) (omega arith))
 
-returns-10 : tie.Need-returns-10
-unfolding areas
-returns-10 c = sym (behind-all 8 _ (omega arith) (omega arith) refl)
-
 pub is-empty-spec : {M : Type 1} → statement M
-is-empty-spec = tie.close (tie.spec returns returns-2 returns-3 returns-4 returns-5 returns-6 returns-7 returns-8 returns-9 returns-10)
+is-empty-spec = tie.close (tie.spec returns returns-2 returns-3 returns-4 returns-5 returns-6 returns-7 returns-8 returns-9)
