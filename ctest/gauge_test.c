@@ -1,5 +1,5 @@
-/* The board as C firmware calls it: power-up, the examples of docs/RULES.md, refusals, samples and the image. Every buffer stands between
- * guard bytes. Prints what fails; the exit status is 0 if nothing does. */
+/* The board as C firmware calls it: power-up, the examples of docs/RULES.md, refusals, samples, masks and the image. Every buffer stands
+ * between guard bytes. Prints what fails; the exit status is 0 if nothing does. */
 #include "check.h"
 #include "gauge.h"
 
@@ -203,6 +203,43 @@ static void samples(void)
     CHECK(same((const uint8_t *)&before, (const uint8_t *)&board, sizeof board));
 }
 
+/* the summary byte as the image has it */
+static uint8_t shown(void)
+{
+    uint8_t image[GAUGE_IMAGE_SIZE];
+    CHECK(gauge_image(board.values, sizeof board.values, image, sizeof image) == GAUGE_DONE);
+    return image[5];
+}
+
+/* a mask hides a fault in summary byte and image, at once; the words hide nothing */
+static void masks(void)
+{
+    start();
+    CHECK(sample(0.5f, 1, 0x400u, 1) == GAUGE_DONE && shown() == 4);
+    TALK(1, "23 A3 F3 01 00 04", "60 A3 F3 01");
+    CHECK(shown() == 0);
+    TALK(0, "40 80 F3 00", "4F 80 F3 00");
+    TALK(0, "40 83 F3 01", "43 83 F3 01 00 04");
+    CHECK(sample(0.5f, 1, 0x401u, 2) == GAUGE_DONE && shown() == 4);
+    CHECK(sample(0.5f, 1, 0x400u, 3) == GAUGE_DONE && shown() == 0);
+    TALK(0, "40 05 90 02", "4B 05 90 02 00 04");
+    TALK(0, "40 93 F3 01", "43 93 F3 01 01 04");
+    TALK(1, "23 F2 FB 01 73 61 76 65", "60 F2 FB 01");
+    TALK(1, "23 A3 F3 01", "60 A3 F3 01");
+    CHECK(shown() == 4);
+    TALK(0, "2F 03 20 00 01", "60 03 20 00"); /* the lock refuses mask and load */
+    TALK(1, "23 A3 F3 01 00 04", "80 A3 F3 01 22 00 00 08");
+    TALK(1, "23 F4 FB 01 6C 6F 61 64", "80 F4 FB 01 22 00 00 08");
+    CHECK(shown() == 4);
+    TALK(0, "2F 03 20 00 00", "60 03 20 00");
+    TALK(1, "23 F4 FB 01 6C 6F 61 64", "60 F4 FB 01"); /* the stored mask comes back */
+    CHECK(shown() == 0);
+    TALK(1, "21 F1 FB 01 05", "60 F1 FB 01"); /* an exception reset under the mask */
+    TALK(1, "05 74 65 73 65 72", "20");
+    CHECK(shown() == 0);
+    TALK(0, "40 93 F3 01", "43 93 F3 01");
+}
+
 /* store, load and device reset */
 static void commands(void)
 {
@@ -288,6 +325,7 @@ int main(void)
     power_up();
     examples();
     samples();
+    masks();
     commands();
     refusals();
     return closed("C test");

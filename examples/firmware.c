@@ -34,6 +34,8 @@ static const struct {
     {15, GAUGE_LINE_TOOL, {0x60}},
     {15, GAUGE_LINE_SERVICE, {0x40, 0xF2, 0xFB, 0x02}},                          /* .. while service reads the status */
     {16, GAUGE_LINE_TOOL, {0x80, 0x10, 0x20, 0x00}},                             /* the tool gives up */
+    {90, GAUGE_LINE_SERVICE, {0x23, 0xA3, 0xF3, 0x01, 0x02, 0x00, 0x00, 0x00}},  /* a mask hides the fault in the image .. */
+    {90, GAUGE_LINE_TOOL, {0x40, 0x83, 0xF3, 0x01}},                             /* .. and not in the active word */
 };
 
 /* from a tick on the sensor shows a pressure; a valid flag of 0 and fault bits come with it */

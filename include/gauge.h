@@ -43,7 +43,7 @@ uint32_t gauge_power_up(uint8_t *values, size_t values_len, const uint8_t *block
 uint32_t gauge_message(uint32_t line, const uint8_t *message, size_t message_len, uint8_t *values, size_t values_len,
                        uint8_t *block, size_t block_len, uint8_t *state, size_t state_len, uint8_t *answer, size_t answer_len);
 
-/* one pressure sample, every 10 ms */
+/* one pressure sample, every 10 ms; faults: every fault of now, masked or not: a mask hides it in the summary byte alone */
 uint32_t gauge_sample(float pressure, uint8_t valid, uint32_t faults, uint32_t seconds, uint8_t *values, size_t values_len,
                       uint8_t *state, size_t state_len);
 

@@ -44,9 +44,9 @@ PLACES = [
     ("underrange", 0x6005, 0x03), ("status-1", 0x600E, 0x01), ("status-2", 0x600F, 0x01), ("settings-1", 0x800E, 0x01),
     ("settings-2", 0x800F, 0x01), ("sensor-error", 0x9005, 0x02), ("trip-input-1", 0x900E, 0x01),
     ("trip-input-2", 0x900F, 0x01), ("summary-byte", 0xF380, 0x00), ("active-word", 0xF383, 0x01),
-    ("latched-status", 0xF390, 0x00), ("latched-word", 0xF393, 0x01), ("trip-outputs", 0xF641, 0x01),
-    ("power-on-time", 0xF9F6, 0x00), ("reset-status", 0xFBF0, 0x02), ("exception-status", 0xFBF1, 0x02),
-    ("store-status", 0xFBF2, 0x02), ("load-status", 0xFBF4, 0x02)]
+    ("latched-status", 0xF390, 0x00), ("latched-word", 0xF393, 0x01), ("masks", 0xF3A1, 0x01), ("error-mask", 0xF3A3, 0x01),
+    ("trip-outputs", 0xF641, 0x01), ("power-on-time", 0xF9F6, 0x00), ("reset-status", 0xFBF0, 0x02),
+    ("exception-status", 0xFBF1, 0x02), ("store-status", 0xFBF2, 0x02), ("load-status", 0xFBF4, 0x02)]
 
 # of these, code finds the place from another: the status entries stand in a row
 NOT_READ = ["status-2"]
@@ -59,8 +59,10 @@ BEHIND = [
     ("status-1", 0x600E, 0x02), ("status-2", 0x600F, 0x02), ("reset-status", 0xFBF0, 0x03), ("exception-status", 0xFBF1, 0x03),
     ("store-status", 0xFBF2, 0x03), ("load-status", 0xFBF4, 0x03)]
 
-# the first and the last index of what an exception reset clears
-LATCHED = (0xF390, 0xF398)
+# entries that stand behind each other: the test of a row, what they are, the name of their size, their first and last index
+SPANS = [
+    ("latched", "what an exception reset clears", "latched-size", 0xF390, 0xF398),
+    ("is-mask", "the masks of the detail words", "masks-size", 0xF3A1, 0xF3A8)]
 
 # a trip point's settings, counted from the first of them: the same in 800E and 800F
 SETTINGS = [
@@ -331,8 +333,10 @@ def places(rows):
         if offset != at[0x800F, sub] - at[0x800F, 0x01]:
             sys.exit("the settings of the two trip points are laid out differently")
         named.append((name, offset, "800E:%02X and 800F:%02X, counted from subindex 01" % (sub, sub)))
-    size = sum(held(row) for row in rows if LATCHED[0] <= row["index"] <= LATCHED[1])
-    return named + [("latched-size", size, "the bytes of %04X to %04X, which stand behind each other from %04X:00 on" % (*LATCHED, LATCHED[0]))]
+    for _, _, size, low, high in SPANS:
+        number = sum(held(row) for row in rows if low <= row["index"] <= high)
+        named.append((size, number, "the bytes of %04X to %04X, which stand behind each other" % (low, high)))
+    return named
 
 
 def places_antt(rows):
@@ -369,12 +373,14 @@ named-places =
     for first, index in (("settings-1", 0x800E), ("settings-2", 0x800F)):
         for name, sub in SETTINGS:
             text += "    placed 0x%04X 0x%02X (%s + %s) %d ∷\n" % (index, sub, first, name, length[index, sub])
-    return text + """    []
-
--- what an exception reset clears: every subindex of these indices
-unfoldable pub latched : Row → Bool
-latched r = both (leb 0x%04X (r .index)) (leb (r .index) 0x%04X)
-""" % LATCHED
+    text += "    []\n"
+    for test, what, _, low, high in SPANS:
+        text += """
+-- %s: every subindex of these indices
+unfoldable pub %s : Row → Bool
+%s r = both (leb 0x%04X (r .index)) (leb (r .index) 0x%04X)
+""" % (what, test, test, low, high)
+    return text
 
 
 def place_rt(rows):

@@ -197,13 +197,21 @@ pub fn kinds() -> Vec<Kind> {
     prepare(&mut stored, &write(store, b"save"));
     let mut damaged = stored.clone();
     damaged.block[511] = 1;
+    // a fault is hidden and another is not, in the values and by the block
+    let mask = find(0xF3A3, 1);
+    let mut masked = stored.clone();
+    prepare(&mut masked, &write(mask, &[0, 4, 0, 0]));
+    prepare(&mut masked, &write(store, b"save"));
+    model::sample(0.5, 1, 0x401, 1, &mut masked.values, &mut masked.state);
     let mut outside = fresh.clone();
     let total = find(0xF840, 3);
     outside.values[total.place.unwrap()] = 0;
     list.one("store", "command", &fresh, write(store, b"save")[0], true);
     list.one("store, refused at the last limit", "command", &outside, write(store, b"save")[0], true);
     list.one("store, wrong word", "command", &fresh, write(store, b"SAVE")[0], true);
-    list.one("load", "command", &stored, write(load, b"load")[0], true);
+    for memory in [&stored, &masked] {
+        list.one("load", "command", memory, write(load, b"load")[0], true);
+    }
     list.one("load, block faulty at its end", "command", &damaged, write(load, b"load")[0], true);
     list.one("load, zero block", "command", &fresh, write(load, b"load")[0], true);
     for (name, memory) in [("good", &stored), ("faulty", &damaged)] {
@@ -213,9 +221,14 @@ pub fn kinds() -> Vec<Kind> {
         list.one(&format!("device reset, last part, block {name}"), "command", &last, messages[1], false);
     }
     let messages = write(exceptions, b"teser");
-    let mut last = fresh.clone();
-    prepare(&mut last, &messages[..1]);
-    list.one("exception reset, last part", "command", &last, messages[1], false);
+    for memory in [&fresh, &masked] {
+        let mut last = memory.clone();
+        prepare(&mut last, &messages[..1]);
+        list.one("exception reset, last part", "command", &last, messages[1], false);
+    }
+    for memory in [&fresh, &masked] {
+        list.one("mask write", "message", memory, write(mask, &[0, 4, 0, 0])[0], true);
+    }
 
     for (name, memory) in [("zero block", &fresh), ("good block", &stored), ("block faulty at its end", &damaged)] {
         list.add(&format!("power-up, {name}"), "power-up", memory, vec![Call::PowerUp], true);
@@ -225,7 +238,9 @@ pub fn kinds() -> Vec<Kind> {
         list.add("valid sample, all sides enabled", "sample", &stored, vec![Call::Sample(pressure, 1, 0, 1)], true);
         list.add("valid sample, no side enabled", "sample", &fresh, vec![Call::Sample(pressure, 1, 0, 1)], true);
     }
-    list.add("sample with faults", "sample", &stored, vec![Call::Sample(0.5, 1, 0xFFFF_FFFF, 1)], true);
+    for memory in [&stored, &masked] {
+        list.add("sample with faults", "sample", memory, vec![Call::Sample(0.5, 1, 0xFFFF_FFFF, 1)], true);
+    }
     list.add("sample that is not valid", "sample", &stored, vec![Call::Sample(f32::NAN, 1, 0, 1)], true);
     list.add("image", "image", &stored, vec![Call::Image], true);
 

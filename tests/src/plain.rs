@@ -19,6 +19,7 @@ pub struct Line {
     pub place: Option<usize>,
     /// Minimum, maximum and default as they are printed.
     pub printed: [String; 3],
+    pub name: String,
 }
 
 impl Line {
@@ -58,6 +59,7 @@ pub fn lines() -> Vec<Line> {
             length: cells[6].parse().unwrap(),
             place: cells[7].parse().ok(),
             printed: [cells[8].to_string(), cells[9].to_string(), cells[10].to_string()],
+            name: cells[11].to_string(),
         });
     }
     lines
@@ -139,6 +141,7 @@ impl Plain {
         self.entries = self.lines.iter().filter(|l| l.place.is_some()).map(|l| ((l.index, l.sub), l.default())).collect();
         self.trips = [false; 4];
         self.load();
+        self.summary();
     }
 
     /// The 1,024 bytes that the table's places make of the entries.
@@ -258,6 +261,9 @@ impl Plain {
             _ => {
                 judge(&line, bytes)?;
                 self.set(index, sub, bytes);
+                if (0xF3A1..=0xF3A8).contains(&index) {
+                    self.summary();
+                }
             }
         }
         Ok(())
@@ -275,7 +281,13 @@ impl Plain {
                 true
             }
             (0xFBF2, [0x73, 0x61, 0x76, 0x65]) => self.store(),
-            (0xFBF4, [0x6C, 0x6F, 0x61, 0x64]) => self.load(),
+            (0xFBF4, [0x6C, 0x6F, 0x61, 0x64]) => {
+                let taken = self.load();
+                if taken {
+                    self.summary();
+                }
+                taken
+            }
             _ => false,
         };
         let number = if done { 0 } else { 2 };
@@ -284,9 +296,11 @@ impl Plain {
         self.set(index, 3, &[number, second]);
     }
 
+    /// Device Error, as long as a bit of the active word is not hidden by its mask.
     fn summary(&mut self) {
-        let any = self.entries[&(0xF383, 1)] != [0; 4];
-        self.set(0xF380, 0, &[if any { 4 } else { 0 }]);
+        let (active, mask) = (all_bits(&self.entries[&(0xF383, 1)]), all_bits(&self.entries[&(0xF3A3, 1)]));
+        let shown = active.into_iter().zip(mask).any(|(fault, hidden)| fault && !hidden);
+        self.set(0xF380, 0, &[if shown { 4 } else { 0 }]);
     }
 
     fn nv(&self) -> Vec<Line> {

@@ -268,6 +268,9 @@ const SPECIAL: [u32; 18] = [
 
 const NICE: [f32; 14] = [0.5, 0.125, 0.25, 0.75, 1.0, 0.0, 2.0, 1500.0, 0.1, 0.3, 1e-7, 3.5e-10, 1499.9999, 16.0];
 
+/// The bits of a fault word that a sample keeps.
+const KEPT: u32 = 1 << 0 | 1 << 1 | 1 << 9 | 1 << 10;
+
 /// Makes the steps of one trace.
 struct Maker {
     r: Random,
@@ -277,6 +280,8 @@ struct Maker {
     reals: [u32; 4],
     ops: Vec<Op>,
     seconds: u32,
+    /// What the last sample kept of its faults.
+    active: u32,
 }
 
 impl Maker {
@@ -300,6 +305,7 @@ impl Maker {
             },
             "CARD" => self.card(),
             "COMMAND" => self.command(line),
+            "UDINT" if (0xF3A1..=0xF3A8).contains(&line.index) => self.detail().to_le_bytes().to_vec(),
             "STRING" => match self.r.below(4) {
                 0 => vec![self.r.byte(); line.length],
                 1 => line.default(),
@@ -317,6 +323,19 @@ impl Maker {
                 let value = self.r.pick(&near);
                 value.to_le_bytes()[..width as usize / 8].to_vec()
             }
+        }
+    }
+
+    /// A mask or faults: most of them of bits that a sample keeps, often of those that the last one had.
+    fn detail(&mut self) -> u32 {
+        match self.r.below(10) {
+            0..=2 => self.active,
+            3 => !self.active,
+            4 | 5 => self.r.pick(&[1 << 0, 1 << 1, 1 << 9, 1 << 10]),
+            6 => self.r.word() & KEPT,
+            7 => self.r.pick(&[0, u32::MAX]),
+            8 => self.r.pick(&[1 << 10, KEPT]),
+            _ => self.r.word(),
         }
     }
 
@@ -496,11 +515,37 @@ impl Maker {
         Maker::find(index, self.r.pick(&[enable, level, hysteresis]))
     }
 
+    /// A mask, mostly the one that counts.
+    fn mask_line(&mut self) -> &'static Line {
+        Maker::find(if self.r.chance(600) { 0xF3A3 } else { 0xF3A1 + self.r.below(8) as u16 }, 1)
+    }
+
+    /// A write of some value for an entry.
+    fn write_some(&mut self, line: &Line) -> Vec<[u8; 8]> {
+        let value = self.value(line);
+        self.write(line, value)
+    }
+
+    /// A read of the summary byte or of a word beside it.
+    fn read_exceptions(&mut self) -> Vec<[u8; 8]> {
+        let (index, sub) = self.r.pick(&[(0xF380, 0), (0xF380, 0), (0xF383, 1), (0xF393, 1), (0xF3A3, 1), (0x9005, 2)]);
+        self.read(Maker::find(index, sub))
+    }
+
+    /// A write that may work the summary byte out, and often a look at what it did.
+    fn write_and_look(&mut self, line: &Line) -> Vec<[u8; 8]> {
+        let mut script = self.write_some(line);
+        if self.r.chance(400) {
+            script.extend(self.read_exceptions());
+        }
+        script
+    }
+
     /// What a line will say next.
     fn script(&mut self) -> Vec<[u8; 8]> {
         let card = Maker::find(0x2010, 0);
         let label = Maker::find(0x2001, 0);
-        match self.r.below(100) {
+        match self.r.below(108) {
             0..=11 => {
                 let line = self.any_line();
                 self.read(line)
@@ -513,21 +558,13 @@ impl Maker {
             28..=31 => self.read(label),
             32..=41 => {
                 let line = self.writable_line();
-                let value = self.value(line);
-                self.write(line, value)
+                self.write_some(line)
             }
-            42..=51 => {
-                let value = self.value(card);
-                self.write(card, value)
-            }
-            52..=57 => {
-                let value = self.value(label);
-                self.write(label, value)
-            }
+            42..=51 => self.write_some(card),
+            52..=57 => self.write_some(label),
             58..=65 => {
                 let line = self.trip_line();
-                let value = self.value(line);
-                self.write(line, value)
+                self.write_some(line)
             }
             66..=73 => {
                 let lock = Maker::find(0x2003, 0);
@@ -540,15 +577,14 @@ impl Maker {
                 let index = if index == 0xFBF0 && self.r.chance(400) { 0xFBF1 } else { index };
                 let line = Maker::find(index, 1);
                 if self.r.chance(100) {
-                    return self.read(line);
+                    self.read(line)
+                } else {
+                    self.write_and_look(line)
                 }
-                let value = self.value(line);
-                self.write(line, value)
             }
             85..=87 => {
                 let line = self.any_line();
-                let value = self.value(line);
-                self.write(line, value)
+                self.write_some(line)
             }
             88..=91 => {
                 let mut line = self.any_line().clone();
@@ -561,8 +597,7 @@ impl Maker {
                 if self.r.chance(500) {
                     self.read(&line)
                 } else {
-                    let value = self.value(&line);
-                    self.write(&line, value)
+                    self.write_some(&line)
                 }
             }
             92..=93 => vec![[0x80, 0, 0, 0, 0, 0, 0, 0]],
@@ -582,6 +617,16 @@ impl Maker {
                 let status = Maker::find(self.r.pick(&[0xFBF0, 0xFBF1, 0xFBF2, 0xFBF4]), self.r.pick(&[2, 3]));
                 self.read(status)
             }
+            99..=104 => {
+                let line = self.mask_line();
+                let mut script = self.write_and_look(line);
+                // another mask may come back
+                if self.r.chance(250) {
+                    script.extend(self.write_and_look(Maker::find(0xFBF4, 1)));
+                }
+                script
+            }
+            105 | 106 => self.read_exceptions(),
             _ => {
                 let mut message = [0; 8];
                 message.copy_from_slice(&self.r.bytes(8));
@@ -639,11 +684,11 @@ impl Maker {
         };
         let valid = self.r.pick(&[1, 1, 1, 1, 1, 1, 1, 1, 0, 2, 0xFF]);
         let faults = match self.r.below(6) {
-            0 => self.r.word(),
-            1 => self.r.pick(&[1, 2, 1 << 9, 1 << 10]),
-            2 => self.r.pick(&[4, 1 << 8, 1 << 11, 1 << 31, 1 << 16]),
+            0..=2 => self.detail(),
+            3 => self.r.pick(&[4, 1 << 8, 1 << 11, 1 << 31, 1 << 16]),
             _ => 0,
         };
+        self.active = faults & KEPT;
         self.seconds = if self.r.chance(50) { self.r.word() } else { self.seconds.wrapping_add(1) };
         self.ops.push(Op::Sample { pressure, valid, faults, seconds: self.seconds });
     }
@@ -761,8 +806,36 @@ impl Maker {
         block
     }
 
+    fn lend_entry(&mut self, index: u16, sub: u8, bytes: Vec<u8>) {
+        let at = Maker::find(index, sub).place.unwrap();
+        self.ops.push(Op::Lend { part: Part::Values, at, bytes });
+    }
+
+    /// A summary byte that is not worked out of the words beside it, and then a write that works it out or leaves it.
+    fn stale(&mut self) {
+        let summary = self.r.pick(&[0, 4, 0, 4, 0xFF]);
+        self.lend_entry(0xF380, 0, vec![summary]);
+        if self.r.chance(600) {
+            let word = self.detail();
+            self.lend_entry(0xF383, 1, word.to_le_bytes().to_vec());
+        }
+        if self.r.chance(300) {
+            self.lend_entry(0x2003, 0, vec![1]);
+        }
+        let line = match self.r.below(10) {
+            0..=4 => self.mask_line(),
+            5..=7 => Maker::find(0xFBF4, 1),
+            8 => Maker::find(0xFBF1, 1),
+            _ => self.writable_line(),
+        };
+        let script = self.write_some(line);
+        let queue = &mut self.queues[self.r.below(2)];
+        queue.clear();
+        queue.extend(script);
+    }
+
     fn lend(&mut self) {
-        let (part, at, bytes) = match self.r.below(10) {
+        let (part, at, bytes) = match self.r.below(12) {
             0..=3 => {
                 let line = if self.r.chance(400) { self.trip_line() } else { self.any_line() };
                 let Some(place) = line.place else {
@@ -789,6 +862,7 @@ impl Maker {
                 let line = self.r.below(2);
                 (Part::State, [0, 96][line], self.record(line))
             }
+            9 | 10 => return self.stale(),
             _ => {
                 let at = self.r.pick(&[192, 193, 194, 195, 192, 193, 194, 195, 70, 95, 166, 191, 196, 255, 64, 66, 160, 162]);
                 (Part::State, at, vec![self.r.pick(&[0, 1, 2, 0x80, 0xFF])])
@@ -866,7 +940,7 @@ impl Trace {
                 _ => r.pick(&NICE).to_bits(),
             };
         }
-        let mut maker = Maker { r, style, queues: Default::default(), reals, ops: Vec::new(), seconds: 0 };
+        let mut maker = Maker { r, style, queues: Default::default(), reals, ops: Vec::new(), seconds: 0, active: 0 };
         let memory = maker.memory();
         let length = maker.r.pick(&[20, 60, 150, 300, 500]);
         while maker.ops.len() < length {

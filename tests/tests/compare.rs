@@ -1,14 +1,22 @@
 //! The exported calls against the independent board, on random traces with fixed seeds: every returned number, every answer,
 //! values, block and state, byte for byte.
 
+use board_tests::board::code;
 use board_tests::independent::Model;
+use board_tests::model::code::LOCKED;
 use board_tests::model::fault::Sound;
-use board_tests::model::table::ROWS;
+use board_tests::model::table::{place, Row, ROWS};
 use board_tests::subject;
 use board_tests::trace::{apply, difference, shrink, Op, Trace};
 use std::panic::{catch_unwind, AssertUnwindSafe};
 
 const TRACES: u64 = 8_000;
+
+const SUMMARY: usize = place(0xF380, 0);
+const ACTIVE: usize = place(0xF383, 1);
+const MASK: usize = place(0xF3A3, 1);
+const EXCEPTION_RESET_STATUS: usize = place(0xFBF1, 2);
+const LOAD_STATUS: usize = place(0xFBF4, 2);
 
 fn row_of(index: u32, sub: u32) -> usize {
     ROWS.iter().position(|row| row.key == 256 * index + sub).unwrap()
@@ -42,10 +50,65 @@ fn on_random_traces() {
     assert!(counted >= 1_000_000, "only {counted} messages and samples");
 }
 
+/// The row of the write that a message ends, if it ends one on the record of its line.
+fn ended_write(message: &[u8; 8], record: &[u8]) -> Option<&'static Row> {
+    match (message[0] >> 5, message[0] & 2, message[0] & 1) {
+        (0, _, 1) => ROWS.get(usize::from(u16::from_le_bytes([record[64], record[65]]))),
+        (1, 2, _) => {
+            let key = u32::from_be_bytes([0, message[2], message[1], message[3]]);
+            ROWS.iter().find(|row| row.key == key)
+        }
+        _ => None,
+    }
+}
+
+/// The summary byte with the words that it is worked out of.
+struct Summary {
+    byte: u8,
+    active: u32,
+    mask: u32,
+}
+
+impl Summary {
+    fn of(values: &[u8]) -> Summary {
+        let word = |at: usize| u32::from_le_bytes(*values[at..].first_chunk().unwrap());
+        Summary { byte: values[SUMMARY], active: word(ACTIVE), mask: word(MASK) }
+    }
+
+    /// Lent, and not what the words give.
+    fn is_stale(&self) -> bool {
+        self.byte != if self.active & !self.mask != 0 { 4 } else { 0 }
+    }
+
+    /// There are faults, and the mask hides them all.
+    fn is_hidden(&self) -> bool {
+        self.active != 0 && self.byte == 0 && !self.is_stale()
+    }
+}
+
+/// What the end of a write shows of the masks.
+fn mask_effects(row: &Row, answer: &[u8; 8], before: &[u8], after: &[u8]) -> [(&'static str, bool); 7] {
+    let (was, is) = (Summary::of(before), Summary::of(after));
+    let accepted = answer[0] != 0x80;
+    let locked = !accepted && code(answer) == LOCKED;
+    let is_load = row.index() == 0xFBF4;
+    let is_reset = row.index() == 0xFBF1 && accepted && after[EXCEPTION_RESET_STATUS] == 0;
+    // of a byte that was lent the mask need not be the reason
+    let change = if was.is_stale() { (0, 0) } else { (was.byte, is.byte) };
+    [
+        ("summary cleared by a mask write", row.mask && change == (4, 0)),
+        ("summary set by a mask write", row.mask && change == (0, 4)),
+        ("summary stale, mask refused by the lock", row.mask && locked && was.is_stale()),
+        ("summary stale, another mask written", row.mask && row.key != 0xF3_A301 && accepted && was.is_stale()),
+        ("summary changed by a load", is_load && change.0 != change.1),
+        ("summary stale, load not done", is_load && accepted && after[LOAD_STATUS] == 2 && was.is_stale()),
+        ("summary 0 under a mask, exception reset", is_reset && is.is_hidden()),
+    ]
+}
+
 /// The traces go deep: every kind of answer, command, trip and refusal occurs in them often.
 #[test]
 fn traces_meet_everything() {
-    use board_tests::board::code;
     use std::collections::BTreeMap;
     let mut met: BTreeMap<String, usize> = BTreeMap::new();
     for seed in 1..=2000 {
@@ -65,9 +128,15 @@ fn traces_meet_everything() {
                         _ if message[0] >> 5 == 0 => meet(format!("write part, last {}", message[0] & 1)),
                         first => meet(format!("answer {first:02X}")),
                     }
-                    let ends = message[0] >> 5 == 0 && message[0] & 1 == 1 && answer[0] != 0x80;
-                    if ends && usize::from(record[64]) + 256 * usize::from(record[65]) == row_of(0x2010, 0x00) {
-                        meet("card written".to_string());
+                    if let Some(row) = ended_write(message, record) {
+                        if row.key == 0x20_1000 && answer[0] != 0x80 {
+                            meet("card written".to_string());
+                        }
+                        for (what, met) in mask_effects(row, answer, &before.values, &memory.values) {
+                            if met {
+                                meet(what.to_string());
+                            }
+                        }
                     }
                     for (name, index) in [("exception reset", 0xFBF1), ("store", 0xFBF2), ("load", 0xFBF4)] {
                         let status = usize::from(ROWS[row_of(index, 0x02)].place);
@@ -87,6 +156,9 @@ fn traces_meet_everything() {
                     for side in 0..4 {
                         let (was, is) = (before.state[192 + side] != 0, memory.state[192 + side] != 0);
                         meet(format!("side {side} {} to {}", was as u8, is as u8));
+                    }
+                    if Summary::of(&memory.values).is_hidden() {
+                        meet("summary 0 under a mask, sample".to_string());
                     }
                 }
                 Op::Odd { .. } => meet(format!("call of odd lengths, number {number}")),
@@ -131,6 +203,14 @@ fn traces_meet_everything() {
         "side 2 0 to 1",
         "side 3 0 to 1",
         "side 3 1 to 1",
+        "summary 0 under a mask, exception reset",
+        "summary 0 under a mask, sample",
+        "summary changed by a load",
+        "summary cleared by a mask write",
+        "summary set by a mask write",
+        "summary stale, another mask written",
+        "summary stale, load not done",
+        "summary stale, mask refused by the lock",
         "read part, last 1",
         "write part, last 1",
         "call of odd lengths, number 1",

@@ -139,6 +139,19 @@ fn finds_boards_that_break_it() {
         ExceptionResetOneWord,
         NewSettingsAtOnce,
         RestNotTested,
+        MasksIgnored,
+        MaskTurned,
+        MaskOfOtherWord,
+        MaskHidesWord,
+        OneHiddenHidesAll,
+        SampleUnmasked,
+        ExceptionResetUnmasked,
+        ActiveMasked,
+        SensorErrorMasked,
+        LatchedMasked,
+        MaskWaitsForSample,
+        LoadKeepsSummary,
+        LoadActsFirst,
     ];
     for mutant in breaking {
         let check = |trace: &Trace| holds(trace, &mut Model(Broken(mutant)), &mut Counts::default());

@@ -1,8 +1,8 @@
 //! The documents against each other and against the calls: the object table's two printed forms, its rule, the examples
-//! A to K, and the coating shop's story.
+//! A to K, the coating shop's story, exceptions and masks.
 
-use board_tests::board::Desk;
-use board_tests::model::table::{Kind, COUNT, FIELDS_END, ROWS};
+use board_tests::board::{Board, Desk};
+use board_tests::model::table::{place, Kind, COUNT, FIELDS_END, ROWS};
 use board_tests::plain::{judge, lines, Plain};
 use board_tests::subject;
 
@@ -75,20 +75,25 @@ fn the_independent_table_is_the_page() {
         assert_eq!((row.kind, row.len as usize, row.nv), (kind, line.length, line.nv));
         assert_eq!((row.readable, row.writable), (line.access != "WO", line.access != "RO"));
         assert_eq!((row.min, row.max), (line.minimum(), line.maximum()));
+        assert_eq!(row.mask, line.name.ends_with(" Mask"), "{}", line.name);
         if let Some(place) = line.place {
             assert_eq!(row.place as usize, place);
         }
     }
 }
 
-/// A dialogue on one line, with zeros behind what is shown.
-fn dialogue(line: u32, exchanges: &[(&str, &str)]) {
-    let mut desk = Desk::new(subject());
+/// Messages on one line and their answers, with zeros behind what is shown.
+fn exchange<B: Board>(desk: &mut Desk<B>, line: u32, exchanges: &[(&str, &str)]) {
     for (message, answer) in exchanges {
         let mut expected: Vec<&str> = answer.split_whitespace().collect();
         expected.resize(8, "00");
         assert_eq!(desk.hex(line, message), expected.join(" "), "to {message}");
     }
+}
+
+/// A dialogue on one line, from power-up.
+fn dialogue(line: u32, exchanges: &[(&str, &str)]) {
+    exchange(&mut Desk::new(subject()), line, exchanges);
 }
 
 #[test]
@@ -448,4 +453,174 @@ fn exception_words() {
     desk.sample(1.0, 1, 0, 3);
     assert_eq!(desk.read(0, 0xF380, 0), Ok(vec![0]));
     assert_eq!(desk.read(0, 0xF9F6, 0), Ok(vec![3, 0, 0, 0]));
+}
+
+const SUMMARY: usize = place(0xF380, 0);
+const TOO_HOT: u32 = 1 << 10;
+const FILAMENT: u32 = 1 << 0;
+
+/// A whole number as it is read.
+fn number<B: Board>(desk: &mut Desk<B>, index: u16, sub: u8) -> u32 {
+    desk.read(0, index, sub).unwrap().iter().rev().fold(0, |n, &byte| n << 8 | byte as u32)
+}
+
+/// The summary byte, which is also in the image.
+fn summary<B: Board>(desk: &mut Desk<B>) -> u32 {
+    let byte = number(desk, 0xF380, 0);
+    assert_eq!(desk.image()[5] as u32, byte);
+    byte
+}
+
+/// The active word, which stands in two entries, and the latched word.
+fn words<B: Board>(desk: &mut Desk<B>) -> (u32, u32) {
+    let active = number(desk, 0xF383, 1);
+    assert_eq!(number(desk, 0x9005, 2), active);
+    (active, number(desk, 0xF393, 1))
+}
+
+fn set_mask<B: Board>(desk: &mut Desk<B>, mask: u32) {
+    assert_eq!(desk.write(1, 0xF3A3, 1, &mask.to_le_bytes()), Ok(()));
+}
+
+/// The fab's story: the gauge is too hot, and service hides that. Summary byte and image follow at once and show what comes
+/// besides; the words hide nothing.
+#[test]
+fn a_masked_fault() {
+    let mut desk = Desk::new(subject());
+    desk.sample(0.5, 1, TOO_HOT, 1);
+    assert_eq!((summary(&mut desk), words(&mut desk)), (4, (TOO_HOT, TOO_HOT)));
+    set_mask(&mut desk, TOO_HOT);
+    assert_eq!((summary(&mut desk), words(&mut desk)), (0, (TOO_HOT, TOO_HOT)));
+    desk.sample(0.5, 1, TOO_HOT, 2);
+    assert_eq!((summary(&mut desk), words(&mut desk)), (0, (TOO_HOT, TOO_HOT)));
+    let both = TOO_HOT | FILAMENT;
+    desk.sample(0.5, 1, both, 3);
+    assert_eq!((summary(&mut desk), words(&mut desk)), (4, (both, both)));
+    desk.sample(0.5, 1, TOO_HOT, 4);
+    assert_eq!((summary(&mut desk), words(&mut desk)), (0, (TOO_HOT, both)));
+    // cleared under the mask, the latched word gets the hidden fault back with the next sample
+    assert_eq!(desk.write(1, 0xFBF1, 1, b"teser"), Ok(()));
+    assert_eq!((summary(&mut desk), words(&mut desk)), (0, (TOO_HOT, 0)));
+    desk.sample(0.5, 0, TOO_HOT, 5);
+    assert_eq!((summary(&mut desk), words(&mut desk)), (0, (TOO_HOT, TOO_HOT)));
+    set_mask(&mut desk, 0);
+    assert_eq!((summary(&mut desk), words(&mut desk)), (4, (TOO_HOT, TOO_HOT)));
+}
+
+/// A mask bit hides its own bit alone, also of bits that no sample sets but lent bytes have. Other words do not count.
+#[test]
+fn a_mask_hides_bit_by_bit() {
+    for bit in 0..32 {
+        let mut desk = Desk::new(subject());
+        desk.memory.values[place(0xF381, 1)..place(0xF388, 1) + 4].fill(0xFF);
+        desk.memory.values[place(0xF383, 1)..][..4].copy_from_slice(&(1u32 << bit).to_le_bytes());
+        for (mask, expected) in [(0, 4), (1 << bit, 0), (!(1 << bit), 4), (u32::MAX, 0)] {
+            set_mask(&mut desk, mask);
+            assert_eq!(summary(&mut desk), expected, "bit {bit}, mask {mask:08X}");
+        }
+    }
+}
+
+/// A write of any mask works the summary byte out, whole or in parts; only F3A3 hides something.
+#[test]
+fn each_mask_works_the_summary_out() {
+    for index in 0xF3A1..=0xF3A8u16 {
+        let mut desk = Desk::new(subject());
+        desk.sample(0.5, 1, TOO_HOT, 1);
+        for (mask, expected) in [(TOO_HOT, if index == 0xF3A3 { 0 } else { 4 }), (!TOO_HOT, 4), (0, 4)] {
+            desk.memory.values[SUMMARY] = 0x55;
+            assert_eq!(desk.write(0, index, 1, &mask.to_le_bytes()), Ok(()));
+            assert_eq!(summary(&mut desk), expected, "{index:04X}, mask {mask:08X}");
+            desk.memory.values[SUMMARY] = 0x55;
+            let ([low, high], [a, b, c, d]) = (index.to_le_bytes(), mask.to_le_bytes());
+            desk.say(0, [0x20, low, high, 1, 0, 0, 0, 0]);
+            assert_eq!(desk.memory.values[SUMMARY], 0x55, "{index:04X} opened");
+            desk.say(0, [0x07, a, b, c, d, 0, 0, 0]);
+            assert_eq!(summary(&mut desk), expected, "{index:04X} in parts, mask {mask:08X}");
+        }
+    }
+}
+
+/// Refused writes, commands that were not done, a store, other entries and reads leave a summary byte that was lent.
+#[test]
+fn what_leaves_the_summary() {
+    let lock = ("2F 03 20 00 01", "60 03 20 00");
+    let cases: [&[(&str, &str)]; 12] = [
+        &[lock, ("23 A3 F3 01 00 04", "80 A3 F3 01 22 00 00 08")],
+        &[lock, ("21 A3 F3 01 04", "60 A3 F3 01"), ("07 00 04", "80 A3 F3 01 22 00 00 08")],
+        &[("2B A3 F3 01 00 04", "80 A3 F3 01 13 00 07 06")],
+        &[("20 A3 F3 01", "60 A3 F3 01"), ("05 00 04", "80 A3 F3 01 12 00 07 06")],
+        &[lock, ("23 F4 FB 01 6C 6F 61 64", "80 F4 FB 01 22 00 00 08")],
+        &[("23 F4 FB 01 6C 6F 61 64", "60 F4 FB 01"), ("40 F4 FB 02", "4F F4 FB 02 02")],
+        &[("23 F4 FB 01 64 61 6F 6C", "60 F4 FB 01"), ("40 F4 FB 02", "4F F4 FB 02 02")],
+        &[("20 F1 FB 01", "60 F1 FB 01"), ("05 74 65 73 65 73", "20"), ("40 F1 FB 02", "4F F1 FB 02 02")],
+        &[("20 F0 FB 01", "60 F0 FB 01"), ("03 74 65 73 65 72 66", "20"), ("40 F0 FB 02", "4F F0 FB 02 02")],
+        &[("23 F2 FB 01 73 61 76 65", "60 F2 FB 01"), ("40 F2 FB 02", "4F F2 FB 02")],
+        &[("2F 0E 80 02 01", "60 0E 80 02")],
+        &[("40 A3 F3 01", "43 A3 F3 01"), ("40 80 F3 00", "4F 80 F3 00 55")],
+    ];
+    for case in cases {
+        let mut desk = Desk::new(subject());
+        desk.sample(0.5, 1, TOO_HOT, 1);
+        desk.memory.values[SUMMARY] = 0x55;
+        exchange(&mut desk, 1, case);
+        assert_eq!(desk.memory.values[SUMMARY], 0x55, "after {case:?}");
+    }
+}
+
+/// A stored mask comes back by load, which works the summary byte out, by device reset and at power-up.
+#[test]
+fn a_saved_mask() {
+    let mut desk = Desk::new(subject());
+    desk.sample(0.5, 1, TOO_HOT, 1);
+    set_mask(&mut desk, TOO_HOT);
+    assert_eq!(desk.write(1, 0xFBF2, 1, b"save"), Ok(()));
+    set_mask(&mut desk, 0);
+    assert_eq!(summary(&mut desk), 4);
+    assert_eq!(desk.write(1, 0xFBF4, 1, b"load"), Ok(()));
+    assert_eq!((summary(&mut desk), words(&mut desk)), (0, (TOO_HOT, TOO_HOT)));
+    assert_eq!(number(&mut desk, 0xFBF4, 2), 0);
+    // a mask that hides less than the one before it
+    set_mask(&mut desk, TOO_HOT | FILAMENT);
+    desk.sample(0.5, 1, FILAMENT, 2);
+    assert_eq!(summary(&mut desk), 0);
+    assert_eq!(desk.write(1, 0xFBF4, 1, b"load"), Ok(()));
+    assert_eq!(summary(&mut desk), 4);
+    for by_command in [true, false] {
+        if by_command {
+            assert_eq!(desk.write(1, 0xFBF0, 1, b"teser\0"), Ok(()));
+        } else {
+            assert_eq!(desk.power_up(), 0);
+        }
+        assert_eq!((summary(&mut desk), words(&mut desk), number(&mut desk, 0xF3A3, 1)), (0, (0, 0), TOO_HOT));
+        desk.sample(0.5, 1, TOO_HOT, 1);
+        assert_eq!(summary(&mut desk), 0);
+        desk.sample(0.5, 1, FILAMENT, 2);
+        assert_eq!(summary(&mut desk), 4);
+    }
+}
+
+/// docs/ABORT-CODES.md: the dialogue below the masks. `sample` and a fault word stand for a valid sample of 0.5.
+#[test]
+fn a_mask_of_the_page() {
+    let page = include_str!("../../docs/ABORT-CODES.md");
+    let section = page.split("\n## ").find(|section| section.starts_with("Exceptions\n")).unwrap();
+    let mut desk = Desk::new(subject());
+    let (mut messages, mut samples) = (0, 0);
+    for text in section.lines().filter_map(|text| text.strip_prefix("    ")) {
+        match text.split_whitespace().collect::<Vec<_>>()[..] {
+            ["sample", faults, ..] => {
+                samples += 1;
+                desk.sample(0.5, 1, u32::from_str_radix(faults, 16).unwrap(), samples);
+            }
+            [line, message, answering, answer, ..] => {
+                messages += 1;
+                let message = u64::from_str_radix(message, 16).unwrap().to_be_bytes();
+                let given = desk.say(line.parse().unwrap(), message).unwrap();
+                assert_eq!((answering, answer), (line, &format!("{:016X}", u64::from_be_bytes(given))[..]), "to '{text}'");
+            }
+            _ => panic!("'{text}' is no line of a dialogue"),
+        }
+    }
+    assert!(messages >= 8 && samples >= 3, "{messages} messages and {samples} samples");
 }

@@ -1,5 +1,5 @@
 -- RULE: what an exception reset does (R8.7): F390 and F391 to F398, which stand behind each other, are cleared, and the summary byte
--- is worked out anew. Assumes nothing.
+-- is worked out anew (R11.4). Assumes nothing.
 use mathlib.Core.List.{List}
 use Prim.Native.Nat.{ℕ}
 use lib.ListN.{replicate}

@@ -17,5 +17,5 @@ pub fn clear_latched(values: &mut [u8])
         0,
         place::LATCHED_SIZE,
     );
-    sample::put_summary(values, wire::word_at(values, place::ACTIVE_WORD));
+    sample::put_summary(values);
 }

@@ -6,6 +6,7 @@ use mathlib.Core.Bool.{Bool, true, false, cond, not}
 use mathlib.Core.List.{List}
 use mathlib.Core.Option.{Option, none, some}
 use lib.Dec.{eqb}
+use lib.Ieee.{Float}
 use lib.ListN.{length, length-take}
 use borrow.Author.Tests.{ne-eqb}
 use Rattle.order.specs.Talk.{Read, value, denied, Sizes, sizes, closed, Outcome, stored, restarted, declined}
@@ -28,12 +29,15 @@ use Rattle.gate.specs.Gates.{Way, to-row, no-way, gate, read-gate, write-gate}
 use Rattle.command.specs.Words.{command-at, read-word, word-of, same-bytes}
 use Rattle.command.specs.declared.word.Command.{Command}
 use Rattle.command.specs.declared.word.Command.the-variants.{DeviceReset, ExceptionReset, StoreParameters, LoadParameters}
-use Rattle.gauge.specs.Memory.{Memory, Store}
+use Rattle.trip.specs.declared.Trips.{Trips}
+use Rattle.sample.specs.Sample.{values-after}
+use Rattle.gauge.specs.Memory.{Memory, Store, with-values}
 use Rattle.gauge.specs.Commands.{done, obeyed}
 use Rattle.gauge.specs.Checks.{asked-last, Test, no-such-index, no-such-subindex, only-written, only-read, announced-long, announced-short, sent-long, sent-short, under-lock, no-number, too-high, too-low, code-of, last-order, refused-by, unless-refused}
 use Rattle.gauge.specs.Whole.{by-type, value-of, effect, write-by, commit-row, with-trips, commit-whole}
 use Rattle.gauge.proofs.ByGate.{read-through, sizes-of, commit-through, read-by-gate, sizes-by-gate, commit-by-gate}
 use Rattle.gauge.proofs.ValueLaws.{value-length}
+use Rattle.gauge.proofs.SummaryLaws.{fresh-length}
 use Rattle.sdo.specs.declared.Key.{Key}
 use Rattle.transfer.specs.declared.Direction.the-variants.{Reads, Writes}
 use Rattle.sdo.specs.Eight.{Code}
@@ -44,7 +48,8 @@ use Rattle.transfer.proofs.RecordLaws.{Whole}
 use Rattle.transfer.proofs.Kept.{keeps}
 use Rattle.line.specs.Gauge.{sampled, bag552}
 use Rattle.demand3.specs.Firmware.{setup, powered-store}
-use Rattle.demand3.proofs.Lengths.{values-long, fresh-long, Sized, SizedAfter, commit-sized}
+use Rattle.demand3.proofs.WholeWrites.{After}
+use Rattle.demand3.proofs.Lengths.{Sized, sample-sized, commit-sized}
 
 -- ---- codes and lengths
 
@@ -219,46 +224,55 @@ module _ (k : Key) where
   write-row NoIndex e = tt
   write-row NoSub e = tt
 
+-- what whole writes and samples keep of the memory, the two lines' records keep
+module _ (I : Memory → Type 0) (sized : (m : Memory) → I m → length (m .values) ≡ 1024)
+    (writes : (k : ℕ) → k < row-count → eqb (at-row k .access) RO ≡ false → (bytes : List ℕ) → length bytes ≡ at-row k .len → (m : Memory) → I m → After I (commit-row k bytes m))
+    (samples : (m : Memory) (was : Trips) (p : Float) (valid faults seconds : ℕ) → I m → I (with-values m (values-after (m .values) was p valid faults seconds))) where
+  abbrev pub Holds : Store → Type 0
+  Holds g = I (g .memory)
+
+  trips-hold : (g : Store) (o : Outcome Memory) → After I o → GoodAfter bag552 Holds (with-trips g o)
+  unfolding with-trips
+  trips-hold g (stored m) h = h
+  trips-hold g (restarted m) h = h
+  trips-hold g (declined c) h = tt
+
+  commit-holds : (g : Store) (k : Key) (bytes : List ℕ) → Holds g → RowOf Writes k (length bytes) → GoodAfter bag552 Holds (commit-whole g (k .index) (k .sub) bytes)
+  unfolding commit-through gate
+  commit-holds g k bytes ok w = rw (commit-by-gate (k .index) (k .sub) g bytes, w .found) (go (eqb (at-row (w .row) .access) RO) refl)
+    where
+      go : (b : Bool) → eqb (at-row (w .row) .access) RO ≡ b → GoodAfter bag552 Holds (commit-through (cond b (no-way read-only) (to-row (w .row))) g bytes)
+      go true e = tt
+      go false e =
+          trips-hold g (commit-row (w .row) bytes (g .memory))
+          (writes (w .row) (find-at (k .index) (k .sub) (w .row) (w .found) .there) e bytes (allowed-room (at-row (w .row)) (w .fitting-length)) (g .memory) ok)
+
+  pub rows-hold : Rows bag552 Holds
+  unfolding ReadRow WriteRow sampled
+  rows-hold =
+      record {
+        read-row = λ g k bytes ok e. subst (ReadRow k) (sym (read-by-gate (k .index) (k .sub) g) ∙ e) (read-row k (find-row (k .index) (k .sub)) (g .memory .values) (sized (g .memory) ok) refl);
+        write-row = λ k low high e. subst (WriteRow k) (sym (sizes-by-gate (k .index) (k .sub)) ∙ e) (write-row k (find-row (k .index) (k .sub)) refl);
+        commit-good = commit-holds;
+        sample-good = λ g s ok. samples (g .memory) (g .trips) (s .pressure) (s .valid) (s .faults) (s .seconds) ok;
+      }
+
+  pub records-hold : Keeps setup transfers Holds Whole
+  records-hold = keeps bag552 rows-hold (setup .wires) (setup .speech)
+
 -- the store's bytes are as many as the table and the block have places for
 abbrev pub GoodStore : Store → Type 0
 GoodStore g = Sized (g .memory)
 
-trips-good : (g : Store) (o : Outcome Memory) → SizedAfter o → GoodAfter bag552 GoodStore (with-trips g o)
-unfolding with-trips
-trips-good g (stored m) h = h
-trips-good g (restarted m) h = h
-trips-good g (declined c) h = tt
-
-commit-good : (g : Store) (k : Key) (bytes : List ℕ) → GoodStore g → RowOf Writes k (length bytes) → GoodAfter bag552 GoodStore (commit-whole g (k .index) (k .sub) bytes)
-unfolding commit-through gate
-commit-good g k bytes ok w = rw (commit-by-gate (k .index) (k .sub) g bytes, w .found) (go (eqb (at-row (w .row) .access) RO))
-  where
-    go : (b : Bool) → GoodAfter bag552 GoodStore (commit-through (cond b (no-way read-only) (to-row (w .row))) g bytes)
-    go true = tt
-    go false =
-        trips-good g (commit-row (w .row) bytes (g .memory))
-        (commit-sized (w .row) (find-at (k .index) (k .sub) (w .row) (w .found) .there) bytes (allowed-room (at-row (w .row)) (w .fitting-length)) (g .memory) ok)
-
 pub real-rows : Rows bag552 GoodStore
-unfolding ReadRow WriteRow sampled
-real-rows =
-    record {
-      read-row = λ g k bytes ok e. subst (ReadRow k) (sym (read-by-gate (k .index) (k .sub) g) ∙ e) (read-row k (find-row (k .index) (k .sub)) (g .memory .values) (ok .values-are) refl);
-      write-row = λ k low high e. subst (WriteRow k) (sym (sizes-by-gate (k .index) (k .sub)) ∙ e) (write-row k (find-row (k .index) (k .sub)) refl);
-      commit-good = commit-good;
-      sample-good = λ g s ok.
-          record {
-            values-are = values-long (g .memory .values) (g .trips) (s .pressure) (s .valid) (s .faults) (s .seconds) (ok .values-are);
-            block-is = ok .block-is;
-          };
-    }
+real-rows = rows-hold Sized (λ m s. s .values-are) (λ k h e. commit-sized k h) sample-sized
 
 pub powered-good : (block : List ℕ) → length block ≡ 512 → GoodStore (powered-store block)
-powered-good block n = record { values-are = fresh-long _; block-is = n }
+powered-good block n = record { values-are = fresh-length _; block-is = n }
 
 -- what the two lines keep in their records
 pub kept-records : Keeps setup transfers GoodStore Whole
-kept-records = keeps bag552 real-rows (setup .wires) (setup .speech)
+kept-records = records-hold Sized (λ m s. s .values-are) (λ k h e. commit-sized k h) sample-sized
 
 -- THEOREM: demand 3 for the board with its records by value, for every list of messages and samples from power-up
 pub demand3-board : (block : List ℕ) → length block ≡ 512 → (cs : List (Call setup)) → Demand3Records setup transfers (powered-store block) cs

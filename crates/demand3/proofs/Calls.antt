@@ -36,7 +36,7 @@ use Rattle.line.specs.Gauge.{Sample, sampled, bag552, plain, store-of}
 use Rattle.board.specs.Calls.{Called, Fed, sized, called, number-by, served, message-call, power-up-call, powered, fed-by, sample-call}
 use Rattle.board.proofs.CallLaws.{place-most, all-sized, no-line, no-room, no-message, is-served}
 use Rattle.demand3.specs.Firmware.{setup, Arrays, arrays, Exported, to-message, to-sample, to-image, Back, back, by-message, by-sample, exported, history, final, power-on, line-of, answer-by, write-seen-ended, Answered, event-of, with-event, events, calls-in, observed, powered-store, store-in, line-place, board-in, Demand3Calls}
-use Rattle.demand3.proofs.Lengths.{values-long, fresh-long}
+use Rattle.demand3.proofs.Lengths.{fresh-sized, sample-sized}
 use Rattle.demand3.proofs.Bag552.{sound, real-rows, GoodStore, kept-records, demand3-board}
 use Rattle.demand3.proofs.Trips.{trips-kept}
 use Rattle.demand3.proofs.StateBytes.{record-long, record-back, record-beside, trips-long, trips-back, trips-beside}
@@ -292,10 +292,7 @@ module _ (a : Arrays) (ok : Fitting a) (s : Sample) where
   sampled-lent =
       let n : length (a .state) ≡ state-size = ok .state-is in
       record {
-        memory-sized = record {
-          values-are = values-long (a .values) (trips-at (a .state)) (s .pressure) (s .valid) (s .faults) (s .seconds) (ok .memory-sized .values-are);
-          block-is = ok .memory-sized .block-is;
-        };
+        memory-sized = sample-sized (store-in a .memory) (trips-at (a .state)) (s .pressure) (s .valid) (s .faults) (s .seconds) (ok .memory-sized);
         state-is = length-splice (a .state) trips-place (trips-bytes tripped) (omega (arith, trips-long tripped)) ∙ n;
       }
 
@@ -377,21 +374,21 @@ module _ (v b s : List ℕ) where
       go false q = absurd (omega arith)
 
   module _ (zero-given : (power-up-call v b s) .number ≡ 0) where
-    long : (length b ≡ 512) × (length s ≡ state-size)
-    long = sized-lengths (accepted zero-given)
+    pub powered-lengths : (length b ≡ 512) × (length s ≡ state-size)
+    powered-lengths = sized-lengths (accepted zero-given)
 
     powered-is : power-on v b s ≡ arrays (fresh-values b) b (fresh-state s)
     unfolding power-on power-up-call
     powered-is = rw (accepted zero-given)
 
     pub powered-lent : Fitting (power-on v b s)
-    powered-lent = rw powered-is (record { memory-sized = record { values-are = fresh-long b; block-is = long .0 }; state-is = fresh-long-state s (long .1) })
+    powered-lent = rw powered-is (record { memory-sized = fresh-sized b (powered-lengths .0); state-is = fresh-long-state s (powered-lengths .1) })
 
-    powered-board : board-in (power-on v b s) ≡ record-start setup transfers (powered-store b)
+    pub powered-board : board-in (power-on v b s) ≡ record-start setup transfers (powered-store b)
     powered-board =
         ap board-in powered-is
-        ∙ boards-same (ap (λ (t : Trips). record { memory = memory-of (fresh-values b) b; trips = t }) (fresh-trips s (long .1)))
-        (records-same (fresh-tool s (long .1)) (fresh-service s (long .1)))
+        ∙ boards-same (ap (λ (t : Trips). record { memory = memory-of (fresh-values b) b; trips = t }) (fresh-trips s (powered-lengths .1)))
+        (records-same (fresh-tool s (powered-lengths .1)) (fresh-service s (powered-lengths .1)))
 
     -- THEOREM: DEMAND 3, for every list of calls of the C firmware from power-up
     pub demand3-calls : (cs : List Exported) → Demand3Calls v b s cs
@@ -414,7 +411,7 @@ module _ (v b s : List ℕ) where
         ds = calls-in (history (power-on v b s) cs)
 
         d : Demand3Records setup transfers (powered-store b) ds
-        d = demand3-board b (long .0) ds
+        d = demand3-board b (powered-lengths .0) ds
 
         answers : events (history (power-on v b s) cs) ≡ record-talk setup transfers (record-start setup transfers (powered-store b)) ds
         answers = t .same-answers ∙ ap (λ (x : RecordBoard setup transfers). record-talk setup transfers x ds) powered-board

@@ -2,11 +2,14 @@ pub mod Examples
 pub mod Unique
 pub mod Refused
 pub mod CoatingShop
+pub mod Fab
+pub mod WholeWrites
 pub mod Lengths
 pub mod Trips
 pub mod Bag552
 pub mod StateBytes
 pub mod Calls
+pub mod NeverStale
 pub mod Parts
 pub mod Observed
 pub mod Broken

@@ -2,7 +2,7 @@
 use mathlib.Core.List.{List, [], _∷_, _++_}
 use Prim.Native.Nat.{ℕ}
 use lib.ListN.{take, drop}
-use Rattle.demand3.specs.Conversation.{Case, on, card-read, card-write}
+use Rattle.demand3.specs.Conversation.{Case, saves, loads, card-read, card-write}
 
 -- trip point 1 low at 0.5, hysteresis 0.125; trip point 2 low at 0.25, hysteresis 0.0625
 unfoldable pub old-pair : List ℕ
@@ -26,15 +26,11 @@ new-pair =
 
 -- service has the new pair in the saved block; the old pair is live
 unfoldable pub saved-before : List Case
-saved-before =
-    card-write 1 new-pair
-    ++ (on 1 (0x23 ∷ 0xF2 ∷ 0xFB ∷ 0x01 ∷ 0x73 ∷ 0x61 ∷ 0x76 ∷ 0x65 ∷ []) (0x60 ∷ 0xF2 ∷ 0xFB ∷ 0x01 ∷ []) ∷ card-write 1 old-pair)
+saved-before = card-write 1 new-pair ++ (saves 1 ∷ card-write 1 old-pair)
 
 -- the tool reads the card; service loads after its first part
 unfoldable pub read-across-load : List Case
-read-across-load =
-    take 2 (card-read 0 old-pair)
-    ++ (on 1 (0x23 ∷ 0xF4 ∷ 0xFB ∷ 0x01 ∷ 0x6C ∷ 0x6F ∷ 0x61 ∷ 0x64 ∷ []) (0x60 ∷ 0xF4 ∷ 0xFB ∷ 0x01 ∷ []) ∷ drop 2 (card-read 0 old-pair))
+read-across-load = take 2 (card-read 0 old-pair) ++ (loads 1 ∷ drop 2 (card-read 0 old-pair))
 
 -- the read is the old pair, whole; the next one is the new pair, whole; written back, the card that was read gives the old pair again
 unfoldable pub story : List Case

@@ -30,8 +30,11 @@ abbrev pub fresh-arrays : Arrays
 fresh-arrays = power-on (replicate 1024 0xFF) (replicate 512 0) (replicate state-size 0xFF)
 
 -- what the board gives back, and what it must give back
+abbrev pub given-to : Arrays → List Exported → List Back
+given-to a cs = map (λ (p : Exported × Back). p .1) (history a cs)
+
 abbrev pub gives-from : Arrays → List Case → List Back
-gives-from a cs = map (λ (p : Exported × Back). p .1) (history a (map asks cs))
+gives-from a cs = given-to a (map asks cs)
 
 abbrev pub gives : List Case → List Back
 gives cs = gives-from fresh-arrays cs
@@ -42,6 +45,14 @@ expected cs = map expects cs
 -- the arrays behind a conversation
 abbrev pub arrays-left : List Case → Arrays
 arrays-left cs = final fresh-arrays (map asks cs)
+
+-- ---- store and load
+
+abbrev pub saves : ℕ → Case
+saves line = on line (0x23 ∷ 0xF2 ∷ 0xFB ∷ 0x01 ∷ 0x73 ∷ 0x61 ∷ 0x76 ∷ 0x65 ∷ []) (0x60 ∷ 0xF2 ∷ 0xFB ∷ 0x01 ∷ [])
+
+abbrev pub loads : ℕ → Case
+loads line = on line (0x23 ∷ 0xF4 ∷ 0xFB ∷ 0x01 ∷ 0x6C ∷ 0x6F ∷ 0x61 ∷ 0x64 ∷ []) (0x60 ∷ 0xF4 ∷ 0xFB ∷ 0x01 ∷ [])
 
 -- ---- the card, read and written whole in five parts
 

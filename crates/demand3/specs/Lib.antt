@@ -4,4 +4,5 @@ pub mod Open
 pub mod Conversation
 pub mod Examples
 pub mod CoatingShop
+pub mod Fab
 pub mod Refused

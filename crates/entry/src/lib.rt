@@ -37,11 +37,15 @@ pub fn read_entry(values: &[u8], row: usize, kind: u8, len: usize) -> [u8; 64]
     bytes
 }
 
-pub fn store_entry(values: &mut [u8], row: usize, value: &[u8])
+// Gives the place at which the entry stands.
+pub fn store_entry(values: &mut [u8], row: usize, value: &[u8]) -> usize
     requires { ⌜ (length (now values) ≡ 1024) × (row < row-count) × (length (now value) ≡ held (at-row row)) ⌝ }
-    ensures { λ _. ⌜ now (values .exit) ≡ with-entry (at-row row) (now (values .entry)) (now (value .entry)) ⌝ }
+    ensures place { λ r. ⌜ r ≡ at-row row .place ⌝ }
+    ensures values { λ _. ⌜ now (values .exit) ≡ with-entry (at-row row) (now (values .entry)) (now (value .entry)) ⌝ }
 {
-    wire::copy_at(values, find::field::place_of(row), value, 0, value.len());
+    let place = find::field::place_of(row);
+    wire::copy_at(values, place, value, 0, value.len());
+    place
 }
 
 // ---- defaults

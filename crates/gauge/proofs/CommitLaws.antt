@@ -21,16 +21,18 @@ use Rattle.limits.specs.declared.Verdict.{Verdict}
 use Rattle.limits.specs.declared.Verdict.the-variants.{Within, NotANumber, Above, Below}
 use Rattle.entry.proofs.RowLaws.{held-is}
 use Rattle.card.specs.Card.{card-of, card-verdict, with-card}
-use Rattle.block.specs.Saved.{storable, stored-block, loadable, loaded}
+use Rattle.block.specs.Saved.{storable, stored-block, loadable}
 use Rattle.table.specs.Codes.{lock-shut}
 use Rattle.table.specs.Find.{row-number}
+use Rattle.table.specs.Places.{is-mask}
 use Rattle.gate.specs.Lock.{locked}
 use Rattle.command.specs.Words.{command-at, word-of, read-word, with-status, same-bytes}
 use Rattle.command.specs.Exceptions.{exceptions-cleared}
 use Rattle.command.specs.declared.word.Command.{Command}
 use Rattle.command.specs.declared.word.Command.the-variants.{DeviceReset, ExceptionReset, StoreParameters, LoadParameters}
 use Rattle.gauge.specs.Memory.{Memory, memory-of}
-use Rattle.gauge.specs.PowerUp.{fresh-values, powered-up}
+use Rattle.gauge.specs.Masks.{heeding}
+use Rattle.gauge.specs.PowerUp.{block-taken, fresh-values, powered-up}
 use Rattle.gauge.specs.Commands.{status-by, done, obeyed}
 use Rattle.gauge.specs.Endings.{Left, left, left-by}
 use Rattle.gauge.specs.Checks.{asked-last, Test, code-of, verdict-of, fails, last-order, refused-by, unless-refused, code-told}
@@ -103,7 +105,7 @@ module _ (v b : List ℕ) where
   unfolding done left-by
   store-done er eb ec ev = rw (ev, eb, ec, er)
 
-  pub load-done : {v₁ v₂ : List ℕ} {right : Bool} {code : ℕ} → right ≡ loadable b → v₁ ≡ loaded b v → code ≡ status-by right
+  pub load-done : {v₁ v₂ : List ℕ} {right : Bool} {code : ℕ} → right ≡ loadable b → v₁ ≡ block-taken b v → code ≡ status-by right
       → v₂ ≡ with-status LoadParameters code v₁ → left Accepted v₂ b ≡ left-by (memory-of v b) (done LoadParameters (memory-of v b))
   unfolding done left-by
   load-done er e₁ ec e₂ = rw (e₂, e₁, ec, er)
@@ -122,16 +124,18 @@ module _ (v b : List ℕ) where
   module _ (r : Row) (bytes : List ℕ) (k : ℕ) (kind : k ≡ r .kind) where
     pub put-card : {v′ : List ℕ} → k ≡ CARD → v′ ≡ with-card v bytes → left Accepted v′ b ≡ left-by (memory-of v b) (effect r bytes (memory-of v b))
     unfolding effect left-by
-    put-card e q = rw (of-card r k kind (stored (memory-of (with-card v bytes) b)) (obeyed (command-at (r .index)) bytes (memory-of v b)) (stored (memory-of (with-entry r v bytes) b)) e, q)
+    put-card e q = rw (of-card r k kind (stored (memory-of (with-card v bytes) b)) (obeyed (command-at (r .index)) bytes (memory-of v b)) (stored (memory-of (heeding (is-mask r) (with-entry r v bytes)) b)) e, q)
 
     pub put-command : {x : Left} → k ≡ COMMAND → x ≡ left-by (memory-of v b) (obeyed (command-at (r .index)) bytes (memory-of v b))
         → x ≡ left-by (memory-of v b) (effect r bytes (memory-of v b))
     unfolding effect
-    put-command e q = rw (of-command r k kind (stored (memory-of (with-card v bytes) b)) (obeyed (command-at (r .index)) bytes (memory-of v b)) (stored (memory-of (with-entry r v bytes) b)) e) q
+    put-command e q = rw (of-command r k kind (stored (memory-of (with-card v bytes) b)) (obeyed (command-at (r .index)) bytes (memory-of v b)) (stored (memory-of (heeding (is-mask r) (with-entry r v bytes)) b)) e) q
 
-    pub put-other : {v′ : List ℕ} → (k ≡ CARD → ⊥) → (k ≡ COMMAND → ⊥) → v′ ≡ with-entry r v bytes → left Accepted v′ b ≡ left-by (memory-of v b) (effect r bytes (memory-of v b))
+    pub put-other : {v₁ v₂ : List ℕ} {came : Bool} → (k ≡ CARD → ⊥) → (k ≡ COMMAND → ⊥) → v₁ ≡ with-entry r v bytes → came ≡ is-mask r → v₂ ≡ heeding came v₁
+        → left Accepted v₂ b ≡ left-by (memory-of v b) (effect r bytes (memory-of v b))
     unfolding effect left-by
-    put-other n m q = rw (of-other r k kind (stored (memory-of (with-card v bytes) b)) (obeyed (command-at (r .index)) bytes (memory-of v b)) (stored (memory-of (with-entry r v bytes) b)) n m, q)
+    put-other n m q₁ e q₂ =
+        rw (of-other r k kind (stored (memory-of (with-card v bytes) b)) (obeyed (command-at (r .index)) bytes (memory-of v b)) (stored (memory-of (heeding (is-mask r) (with-entry r v bytes)) b)) n m, q₂, e, q₁)
 
   module _ (code : ℕ) (o : Option Test) (first : code ≡ code-told o) (done : Outcome Memory) where
     refused-left : (code ≡ 0 → ⊥) → left (Refused code) v b ≡ left-by (memory-of v b) (unless-refused o declined done)

@@ -1,45 +1,42 @@
 -- What a reader of the rules asks of whole reads, writes and commands, one law for each. Assumes nothing.
 use mathlib.Core.Path.{_≡_, refl, sym, ap, _∙_}
-use mathlib.Core.Bool.{Bool, true, false, cond, _||_, or-true}
+use mathlib.Core.Bool.{Bool, true, false, cond, _&&_, _||_, and-false}
 use mathlib.Core.List.{List}
 use mathlib.Core.Option.{Option, none, some}
 use Prim.Native.Nat.{ℕ, _+_, _<_, _≤_}
 use native.Mathlib.Omega.{arith}
-use lib.Dec.{T, leb, eqb}
-use lib.Ieee.Bits.{is-true}
+use lib.Dec.{T, eqb}
 use lib.ListN.{length, replicate}
-use borrow.Author.Tests.{le-leb, eq-eqb}
-use Rattle.wire.specs.Splice.{splice, apart}
+use borrow.Author.Tests.{le-leb, eqb-false}
+use Rattle.wire.specs.Splice.{splice}
 use Rattle.wire.specs.Little.{little}
-use Rattle.wire.proofs.SpliceLaws.{length-splice, splice-length, part-apart}
-use Rattle.wire.proofs.LittleLaws.{Bytes, length-little, put-length}
+use Rattle.wire.proofs.SpliceLaws.{length-splice, splice-length}
+use Rattle.wire.proofs.LittleLaws.{Bytes, length-little}
 use Rattle.order.specs.Talk.{Said, Outcome, stored, restarted, declined}
 use Rattle.order.specs.Gauge.{counted}
-use Rattle.table.specs.Row.{Row, no-row, CARD, COMMAND}
+use Rattle.table.specs.Row.{Row, CARD, COMMAND}
 use Rattle.table.specs.Rows.{rows, row-count, at-row}
 use Rattle.table.specs.Rule.{pick, held}
 use Rattle.table.specs.Walk.{every}
 use Rattle.table.specs.Find.{find-row, row-number}
-use Rattle.table.proofs.Walks.{every-at}
-use Rattle.table.proofs.Table.{rows-length, lock-found}
-use Rattle.table.specs.Places.{latched-status, latched-size, latched, summary-byte}
+use Rattle.table.proofs.Table.{lock-found}
+use Rattle.table.specs.Places.{latched-status, latched-size, latched, is-mask}
 use Rattle.limits.specs.Limits.{verdict-code}
 use Rattle.entry.specs.Entry.{entry-of, with-entry}
 use Rattle.limits.specs.declared.Verdict.{Verdict}
 use Rattle.limits.specs.declared.Verdict.the-variants.{Within, NotANumber, Above, Below}
-use Rattle.entry.proofs.Entries.{row-store-read}
 use Rattle.card.specs.Card.{card-of, with-card}
 use Rattle.card.proofs.RoundTrip.{card-back}
-use Rattle.block.specs.Saved.{loaded}
+use Rattle.block.specs.Saved.{loadable, loaded}
 use Rattle.block.proofs.Theorems.{length-loaded, load-other}
-use Rattle.sample.specs.Faults.{with-summary}
 use Rattle.gate.specs.Lock.{guarded, locked}
 use Rattle.command.specs.Words.{word-of, status-of, with-status, same-bytes}
 use Rattle.command.specs.Exceptions.{exceptions-cleared}
 use Rattle.command.specs.declared.word.Command.{Command}
 use Rattle.command.specs.declared.word.Command.the-variants.{DeviceReset, ExceptionReset, StoreParameters, LoadParameters}
 use Rattle.gauge.specs.Memory.{Memory, with-values}
-use Rattle.gauge.specs.PowerUp.{powered-up}
+use Rattle.gauge.specs.Masks.{heeding, Summed}
+use Rattle.gauge.specs.PowerUp.{block-taken, powered-up}
 use Rattle.gauge.specs.Commands.{done, obeyed}
 use Rattle.gauge.specs.Endings.{left, left-by}
 use Rattle.gauge.specs.Checks.{asked, asked-last, fails, under-lock, Test, verdict-of, last-order, refused-by, unless-refused, code-told}
@@ -47,6 +44,8 @@ use Rattle.gauge.specs.Whole.{value-of, effect, write-by, commit-row}
 use Rattle.gauge.specs.declared.commit.Ending.the-variants.{Refused}
 use Rattle.gauge.proofs.InOrder.{each-passes}
 use Rattle.gauge.proofs.CommitLaws.{of-card, of-other, other-held, card-length, limits-first, card-judged}
+use Rattle.gauge.proofs.Spared.{spared, spare}
+use Rattle.gauge.proofs.SummaryLaws.{is-summary, summary-length, summary-leaves, heeding-leaves, summed-anew, beside, summed-beside, written-read, written-leaves, taken-length}
 
 -- R7.9
 pub lock-open : (s : Said) (bytes values : List ℕ) → fails under-lock (asked (find-row 0x2003 0) s bytes values) ≡ false
@@ -94,16 +93,25 @@ module _ (row : ℕ) (bytes : List ℕ) (m n : Memory) (done : commit-row row by
   unfolding unless-refused
   accepted-within = no-code (verdict-of (at-row row) bytes) (limits-first row (m .values) bytes (verdict-of (at-row row) bytes) refl accepted-unlocked ∙ ap code-told (passed .0))
 
--- a stored entry reads as the bytes that were written
-module _ (k : ℕ) (there : k < row-count) (no-card : at-row k .kind ≡ CARD → ⊥) (no-command : at-row k .kind ≡ COMMAND → ⊥) where
-  pub write-read : (bytes : List ℕ) (m n : Memory) → length (m .values) ≡ 1024 → length bytes ≡ at-row k .len → commit-row k bytes m ≡ stored n → value-of (at-row k) (n .values) ≡ bytes
-  unfolding effect value-of
-  write-read bytes m n long size e =
-      let r : Row = at-row k in
-      let v : with-entry r (m .values) bytes ≡ n .values = ap (λ (x : Memory). x .values) (only-one _ n (sym (of-other r (r .kind) refl _ _ _ no-card no-command) ∙ passed k bytes m n e .1)) in
-      of-other r (r .kind) refl _ _ _ no-card no-command
-      ∙ ap (entry-of r) (sym v)
-      ∙ row-store-read k there (m .values) bytes long (size ∙ sym (other-held k there no-card no-command))
+-- a stored entry reads as the bytes that were written, and every other entry as before; a mask moves the summary F380 too
+module _ (k : ℕ) (there : k < row-count) (no-card : at-row k .kind ≡ CARD → ⊥) (no-command : at-row k .kind ≡ COMMAND → ⊥) (bytes : List ℕ) (m n : Memory)
+    (long : length (m .values) ≡ 1024) (size : length bytes ≡ at-row k .len) (done : commit-row k bytes m ≡ stored n) where
+  values-left : heeding (is-mask (at-row k)) (with-entry (at-row k) (m .values) bytes) ≡ n .values
+  unfolding effect
+  values-left = ap (λ (x : Memory). x .values) (only-one _ n (sym (of-other (at-row k) (at-row k .kind) refl _ _ _ no-card no-command) ∙ passed k bytes m n done .1))
+
+  fit : length bytes ≡ held (at-row k)
+  fit = size ∙ sym (other-held k there no-card no-command)
+
+  pub write-read : value-of (at-row k) (n .values) ≡ bytes
+  unfolding value-of
+  write-read =
+      of-other (at-row k) (at-row k .kind) refl _ _ _ no-card no-command
+      ∙ ap (entry-of (at-row k)) (sym values-left)
+      ∙ written-read k there (m .values) bytes long fit
+
+  pub write-leaves : (j : ℕ) → j < row-count → (k ≡ j → ⊥) → is-mask (at-row k) && is-summary (at-row j) ≡ false → entry-of (at-row j) (n .values) ≡ entry-of (at-row j) (m .values)
+  write-leaves j h d e = ap (entry-of (at-row j)) (sym values-left) ∙ written-leaves k there (m .values) bytes long fit j h d e
 
 -- and so does the card
 pub card-write-read : (k : ℕ) → k < row-count → at-row k .kind ≡ CARD → (bytes : List ℕ) → Bytes bytes → (m n : Memory) → length (m .values) ≡ 1024 → length bytes ≡ at-row k .len
@@ -118,45 +126,37 @@ card-write-read k there card bytes small m n long size e =
 
 -- ---- what a command leaves
 
--- the entries that the rules name for a command: its own status and response (R8.3); latched words and summary (R8.7); the NV entries (R8.5)
+-- the entries that the rules name for a command: its own status and response (R8.3); the summary and the latched words (R8.7) or the NV
+-- entries (R8.5, R11.4)
 unfoldable pub named : Command → Row → Bool
 named DeviceReset r = eqb (r .index) 0xFBF0
-named ExceptionReset r = eqb (r .index) 0xFBF1 || (eqb (r .index) 0xF380 || latched r)
+named ExceptionReset r = eqb (r .index) 0xFBF1 || (is-summary r || latched r)
 named StoreParameters r = eqb (r .index) 0xFBF2
-named LoadParameters r = eqb (r .index) 0xFBF4 || eqb (r .nv) 1
+named LoadParameters r = eqb (r .index) 0xFBF4 || (is-summary r || eqb (r .nv) 1)
 
--- the bytes from a place on, n of them, are none of the row's, or the row is named
-spared : Command → ℕ → ℕ → Row → Bool
-spared c at n r = pick (named c r) true (apart at n (r .place) (held r))
+neither : (a b c : Bool) → a || (b || c) ≡ false → (b ≡ false) × (c ≡ false)
+neither false false false e = (refl, refl)
+neither false false true e = absurd (let z : _≡_ {A = ℕ} 0 1 = cc in omega arith)
+neither false true c e = absurd (let z : _≡_ {A = ℕ} 0 1 = cc in omega arith)
+neither true b c e = absurd (let z : _≡_ {A = ℕ} 0 1 = cc in omega arith)
 
-module _ (c : Command) (at n : ℕ) (pass : T (every (spared c at n) rows)) where
-  spare : (values bytes : List ℕ) → leb at (length values) ≡ true → length bytes ≡ n → (j : ℕ) → j < row-count → named c (at-row j) ≡ false → entry-of (at-row j) (splice values at bytes) ≡ entry-of (at-row j) values
-  unfolding entry-of spared pick
-  spare values bytes room size j h e =
-      part-apart values at bytes room (at-row j .place) (held (at-row j))
-      (rw size (is-true _ (rw e at (every-at (spared c at n) rows no-row pass j (omega (arith, rows-length))))))
-
-status-spared : (c : Command) → T (every (spared c (status-of c) 1) rows)
+status-spared : (c : Command) → T (every (spared (named c) (status-of c) 1) rows)
 unfolding rows every spared named latched pick held status-of
 status-spared DeviceReset = tt
 status-spared ExceptionReset = tt
 status-spared StoreParameters = tt
 status-spared LoadParameters = tt
 
-response-spared : (c : Command) → T (every (spared c (status-of c + 1) 1) rows)
+response-spared : (c : Command) → T (every (spared (named c) (status-of c + 1) 1) rows)
 unfolding rows every spared named latched pick held status-of
 response-spared DeviceReset = tt
 response-spared ExceptionReset = tt
 response-spared StoreParameters = tt
 response-spared LoadParameters = tt
 
-latched-spared : T (every (spared ExceptionReset latched-status latched-size) rows)
+latched-spared : T (every (spared (named ExceptionReset) latched-status latched-size) rows)
 unfolding rows every spared named latched pick held
 latched-spared = tt
-
-summary-spared : T (every (spared ExceptionReset summary-byte 1) rows)
-unfolding rows every spared named latched pick held
-summary-spared = tt
 
 -- status and response byte 0 are no other row's
 module _ (c : Command) (code : ℕ) (values : List ℕ) (long : length values ≡ 1024) where
@@ -181,31 +181,51 @@ module _ (c : Command) (code : ℕ) (values : List ℕ) (long : length values �
   unfolding with-status
   status-leaves j h e =
       let half : List ℕ = splice values (status-of c) (little 1 code) in
-      spare c (status-of c + 1) 1 (response-spared c) half (little 1 code) (le-leb (status-of c + 1) (length half) (omega (arith, inside-values, half-length))) (length-little 1 code) j h e
-      ∙ spare c (status-of c) 1 (status-spared c) values (little 1 code) (le-leb (status-of c) (length values) (omega (arith, inside-values))) (length-little 1 code) j h e
+      spare (named c) (status-of c + 1) 1 (response-spared c) half (little 1 code) (le-leb (status-of c + 1) (length half) (omega (arith, inside-values, half-length))) (length-little 1 code) j h e
+      ∙ spare (named c) (status-of c) 1 (status-spared c) values (little 1 code) (le-leb (status-of c) (length values) (omega (arith, inside-values))) (length-little 1 code) j h e
+
+-- and neither the summary's nor the words' that it is worked out from
+status-beside : (c : Command) → (beside (status-of c) 1 ≡ true) × (beside (status-of c + 1) 1 ≡ true)
+unfolding status-of
+status-beside DeviceReset = (refl, refl)
+status-beside ExceptionReset = (refl, refl)
+status-beside StoreParameters = (refl, refl)
+status-beside LoadParameters = (refl, refl)
+
+pub status-summed : (c : Command) (code : ℕ) (values : List ℕ) → length values ≡ 1024 → Summed values → Summed (with-status c code values)
+unfolding with-status
+status-summed c code values long h =
+    let half : List ℕ = splice values (status-of c) (little 1 code) in
+    summed-beside half (status-of c + 1) (little 1 code) (le-leb (status-of c + 1) (length half) (omega (arith, inside-values c code values long, half-length c code values long))) (rw length-little (status-beside c .1))
+    (summed-beside values (status-of c) (little 1 code) (le-leb (status-of c) (length values) (omega (arith, inside-values c code values long))) (rw length-little (status-beside c .0)) h)
 
 module _ (values : List ℕ) (long : length values ≡ 1024) where
   latched-length : length (splice values latched-status (replicate latched-size 0)) ≡ 1024
   latched-length = splice-length values latched-status (replicate latched-size 0) (rw long) ∙ long
 
   pub cleared-length : length (exceptions-cleared values) ≡ 1024
-  unfolding exceptions-cleared with-summary
-  cleared-length = put-length _ summary-byte 1 _ (rw latched-length) ∙ latched-length
+  unfolding exceptions-cleared
+  cleared-length = summary-length _ latched-length
+
+  pub cleared-summed : Summed (exceptions-cleared values)
+  unfolding exceptions-cleared
+  cleared-summed = summed-anew _ latched-length
 
   cleared-leaves : (j : ℕ) → j < row-count → named ExceptionReset (at-row j) ≡ false → entry-of (at-row j) (exceptions-cleared values) ≡ entry-of (at-row j) values
-  unfolding exceptions-cleared with-summary
+  unfolding exceptions-cleared named
   cleared-leaves j h e =
-      spare ExceptionReset summary-byte 1 summary-spared _ (little 1 _) (rw latched-length) (length-little 1 _) j h e
-      ∙ spare ExceptionReset latched-status latched-size latched-spared values (replicate latched-size 0) (rw long) refl j h e
+      summary-leaves _ latched-length j h (neither (eqb (at-row j .index) 0xFBF1) _ _ e .0)
+      ∙ spare (named ExceptionReset) latched-status latched-size latched-spared values (replicate latched-size 0) (rw long) refl j h e
 
 -- a command other than device reset leaves every entry that is not named for it; device reset is power-up
 module _ (m : Memory) (long : length (m .values) ≡ 1024) (j : ℕ) (there : j < row-count) where
-  not-marked : named LoadParameters (at-row j) ≡ false → at-row j .nv ≡ 1 → ⊥
+  -- a load does not name it: it is not the summary and has no NV mark
+  not-loaded : named LoadParameters (at-row j) ≡ false → (is-summary (at-row j) ≡ false) × (at-row j .nv ≡ 1 → ⊥)
   unfolding named
-  not-marked d e = let z : true ≡ false = sym (or-true (eqb (at-row j .index) 0xFBF4)) ∙ (rw (eq-eqb (at-row j .nv) 1 e) at d) in let y : _≡_ {A = ℕ} 0 1 = cc in omega arith
+  not-loaded d = let n = neither (eqb (at-row j .index) 0xFBF4) _ _ d in (n .0, eqb-false (at-row j .nv) 1 (n .1))
 
   done-leaves : (c : Command) (n : Memory) → named c (at-row j) ≡ false → done c m ≡ stored n → entry-of (at-row j) (n .values) ≡ entry-of (at-row j) (m .values)
-  unfolding done
+  unfolding done block-taken
   done-leaves DeviceReset n d e = absurd (let z : _≡_ {A = ℕ} 0 1 = cc in omega arith)
   done-leaves ExceptionReset n d e =
       rw (← only-one _ n e)
@@ -213,8 +233,9 @@ module _ (m : Memory) (long : length (m .values) ≡ 1024) (j : ℕ) (there : j 
   done-leaves StoreParameters n d e = rw (← only-one _ n e) (status-leaves StoreParameters _ (m .values) long j there d)
   done-leaves LoadParameters n d e =
       rw (← only-one _ n e)
-      (status-leaves LoadParameters _ (loaded (m .block) (m .values)) (length-loaded (m .block) (m .values) long) j there d
-      ∙ load-other (m .block) (m .values) long j there (not-marked d))
+      (status-leaves LoadParameters _ (block-taken (m .block) (m .values)) (taken-length (m .block) (m .values) long) j there d
+      ∙ heeding-leaves (loaded (m .block) (m .values)) (length-loaded (m .block) (m .values) long) (loadable (m .block)) j there (rw (not-loaded d .0) (and-false (loadable (m .block))))
+      ∙ load-other (m .block) (m .values) long j there (not-loaded d .1))
 
   pub command-leaves : (c : Command) (bytes : List ℕ) (n : Memory) → named c (at-row j) ≡ false → obeyed c bytes m ≡ stored n → entry-of (at-row j) (n .values) ≡ entry-of (at-row j) (m .values)
   unfolding obeyed

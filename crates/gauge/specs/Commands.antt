@@ -3,13 +3,13 @@ use mathlib.Core.Bool.{Bool, cond}
 use mathlib.Core.List.{List}
 use Prim.Native.Nat.{ℕ}
 use Rattle.order.specs.Talk.{Outcome, stored, restarted}
-use Rattle.block.specs.Saved.{storable, stored-block, loadable, loaded}
+use Rattle.block.specs.Saved.{storable, stored-block, loadable}
 use Rattle.command.specs.Words.{word-of, with-status, same-bytes}
 use Rattle.command.specs.Exceptions.{exceptions-cleared}
 use Rattle.command.specs.declared.word.Command.{Command}
 use Rattle.command.specs.declared.word.Command.the-variants.{DeviceReset, ExceptionReset, StoreParameters, LoadParameters}
 use Rattle.gauge.specs.Memory.{Memory, memory-of, with-values}
-use Rattle.gauge.specs.PowerUp.{powered-up}
+use Rattle.gauge.specs.PowerUp.{block-taken, powered-up}
 
 -- status 0, done, or 2
 unfoldable pub status-by : Bool → ℕ
@@ -22,7 +22,7 @@ done ExceptionReset m = stored (with-values m (with-status ExceptionReset 0 (exc
 done StoreParameters m =
     stored (memory-of (with-status StoreParameters (status-by (storable (m .values))) (m .values)) (stored-block (m .values) (m .block)))
 done LoadParameters m =
-    stored (with-values m (with-status LoadParameters (status-by (loadable (m .block))) (loaded (m .block) (m .values))))
+    stored (with-values m (with-status LoadParameters (status-by (loadable (m .block))) (block-taken (m .block) (m .values))))
 
 -- a wrong word is accepted, and only the status says so (R8.3)
 unfoldable pub obeyed : Command → List ℕ → Memory → Outcome Memory

@@ -1,4 +1,5 @@
 pub mod Memory
+pub mod Masks
 pub mod PowerUp
 pub mod Commands
 pub mod Endings

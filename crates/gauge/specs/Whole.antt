@@ -6,11 +6,13 @@ use lib.Dec.{eqb}
 use Rattle.order.specs.Talk.{unsaid, Read, value, denied, Sizes, sizes, closed, Outcome, stored, restarted, declined}
 use Rattle.table.specs.Row.{Row, smallest, largest, CARD, COMMAND}
 use Rattle.table.specs.Find.{find-row}
+use Rattle.table.specs.Places.{is-mask}
 use Rattle.entry.specs.Entry.{entry-of, with-entry}
 use Rattle.card.specs.Card.{card-of, with-card}
 use Rattle.trip.specs.Trip.{all-off}
 use Rattle.command.specs.Words.{command-at, read-word}
 use Rattle.gauge.specs.Memory.{Memory, Store, with-values}
+use Rattle.gauge.specs.Masks.{heeding}
 use Rattle.gauge.specs.Commands.{obeyed}
 use Rattle.gauge.specs.Checks.{Asked, asked, asked-key, asked-last, row-asked, sent, Test, read-order, key-order, last-order, write-order, refused-by, unless-refused}
 
@@ -39,12 +41,12 @@ sizes-checked a = unless-refused (refused-by a key-order) closed (sizes (smalles
 unfoldable pub write-sizes : ℕ → ℕ → Sizes
 write-sizes index sub = sizes-checked (asked-key (find-row index sub))
 
--- what an accepted write does
+-- what an accepted write does; a mask acts at once (R11.4)
 unfoldable pub effect : Row → List ℕ → Memory → Outcome Memory
 effect r bytes m =
     by-type r (stored (with-values m (with-card (m .values) bytes)))
     (obeyed (command-at (r .index)) bytes m)
-    (stored (with-values m (with-entry r (m .values) bytes)))
+    (stored (with-values m (heeding (is-mask r) (with-entry r (m .values) bytes))))
 
 -- a write that is refused by the first of some tests, or done
 unfoldable pub write-by : List Test → Asked → Memory → Outcome Memory

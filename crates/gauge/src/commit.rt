@@ -1,4 +1,5 @@
 // A whole write of a row: lock, limits, and what an accepted write does.
+use crate::masks;
 use crate::power;
 use command::exception;
 use command::word;
@@ -51,7 +52,7 @@ fn carry_out(values: &mut [u8], block: &mut [u8], command: Command) -> Ending
             Ending::Accepted
         }
         Command::LoadParameters => {
-            let code = status_by(load::load(block, values));
+            let code = status_by(power::take_block(values, block));
             word::set_status(values, Command::LoadParameters, code);
             Ending::Accepted
         }
@@ -96,7 +97,8 @@ fn put(values: &mut [u8], block: &mut [u8], row: usize, kind: u8, bytes: &[u8]) 
     if kind == kind::COMMAND {
         return obey(values, block, word::command_at(row), bytes);
     }
-    entry::store_entry(values, row, bytes);
+    let place = entry::store_entry(values, row, bytes);
+    masks::heed(values, masks::stand_at(place));
     Ending::Accepted
 }
 

@@ -17,8 +17,8 @@ use Rattle.wire.proofs.FlagLaws.{by-test, bit-lt, set-back}
 use Rattle.wire.proofs.Writes.{Write, write, written, within, tidy, shown, number-shown}
 use Rattle.trip.specs.declared.Trips.{Trips}
 use Rattle.trip.specs.Trip.{off, usable-pressure, point-after, output, all-off}
-use Rattle.table.specs.Places.{input-value, trip-input-1, trip-input-2, reading-valid, status-1, status-2, trip-outputs, settings-1, settings-2, high-enable, low-enable, high-level, low-level, high-hysteresis, low-hysteresis, sensor-error, active-word, latched-word, summary-byte, power-on-time}
-use Rattle.sample.specs.Faults.{kept-faults, with-faults, summary-of, with-summary}
+use Rattle.table.specs.Places.{input-value, trip-input-1, trip-input-2, reading-valid, status-1, status-2, trip-outputs, settings-1, settings-2, high-enable, low-enable, high-level, low-level, high-hysteresis, low-hysteresis, sensor-error, active-word, latched-word, error-mask, summary-byte, power-on-time}
+use Rattle.sample.specs.Faults.{kept-faults, with-faults, all-hidden, summary-of, with-summary}
 use Rattle.sample.specs.Sample.{settings, trips-next, trips-after, with-pressure, with-none, with-reading, trip-word, with-trip-entries, values-after}
 
 -- ---- the kept faults
@@ -42,9 +42,13 @@ kept-word f = omega (arith, kept-lt f)
 
 -- ---- what fits
 
-four-fits : (b : Bool) → cond b 0 4 < 2 ^ (8 * 1)
-four-fits true = omega arith
-four-fits false = omega arith
+pub summary-fits : (active mask : ℕ) → summary-of active mask < 2 ^ (8 * 1)
+unfolding summary-of
+summary-fits active mask = go (all-hidden active mask)
+  where
+    go : (b : Bool) → cond b 0 4 < 2 ^ (8 * 1)
+    go true = omega arith
+    go false = omega arith
 
 word-lt : (t : Trips) → trip-word t < 2 ^ (8 * 4)
 unfolding trip-word
@@ -159,17 +163,20 @@ module _ (l : List ℕ) (was : Trips) (p : Float) (valid faults seconds : ℕ) (
       let e = from-little 4 (kept-faults faults) (kept-word faults) in
       each l was p valid h (with-faults faults m) (f-writes []) f-by active-word 4 (kept-faults faults) refl e e
 
-  summary-before : summary-of (number (with-faults faults m) active-word 4) ≡ cond (eqb (kept-faults faults) 0) 0 4
-  unfolding summary-of
-  summary-before = rw active-before
+  mask-before : number (with-faults faults m) error-mask 4 ≡ number l error-mask 4
+  mask-before = each l was p valid h (with-faults faults m) (f-writes []) f-by error-mask 4 _ refl refl refl
+
+  -- this sample's faults, under the mask as it stands
+  abbrev summary : ℕ
+  summary = summary-of (kept-faults faults) (number l error-mask 4)
 
   abbrev all-writes : List Write
-  all-writes = f-writes (write summary-byte 1 (cond (eqb (kept-faults faults) 0) 0 4) ∷ write power-on-time 4 seconds ∷ [])
+  all-writes = f-writes (write summary-byte 1 summary ∷ write power-on-time 4 seconds ∷ [])
 
   all-by : By l was p valid (values-after l was p valid faults seconds) all-writes
   unfolding values-after with-summary
-  all-by true e = rw (summary-before, f-by true e)
-  all-by false e = rw (summary-before, f-by false e)
+  all-by true e = rw (active-before, mask-before, f-by true e)
+  all-by false e = rw (active-before, mask-before, f-by false e)
 
   number-after : (q n v : ℕ) → fine l was p valid all-writes q n ≡ true → shown (steps l was p valid true all-writes) q n (number l q n) ≡ v → shown (steps l was p valid false all-writes) q n (number l q n) ≡ v → number (values-after l was p valid faults seconds) q n ≡ v
   number-after = each l was p valid h (values-after l was p valid faults seconds) all-writes all-by
@@ -187,8 +194,11 @@ module _ (l : List ℕ) (was : Trips) (p : Float) (valid faults seconds : ℕ) (
       let e = from-little 4 (bitOr (kept-faults faults) (number l latched-word 4)) (or-lt 32 (kept-faults faults) (number l latched-word 4) (kept-word faults) (number-lt l latched-word 4 bytes)) in
       number-after latched-word 4 _ refl e e
 
-  pub summary-shown : number (values-after l was p valid faults seconds) summary-byte 1 ≡ cond (eqb (kept-faults faults) 0) 0 4
-  summary-shown = let e = from-little 1 (cond (eqb (kept-faults faults) 0) 0 4) (four-fits (eqb (kept-faults faults) 0)) in number-after summary-byte 1 _ refl e e
+  pub summary-shown : number (values-after l was p valid faults seconds) summary-byte 1 ≡ summary-of (kept-faults faults) (number l error-mask 4)
+  summary-shown = let e = from-little 1 summary (summary-fits (kept-faults faults) (number l error-mask 4)) in number-after summary-byte 1 _ refl e e
+
+  pub mask-stays : number (values-after l was p valid faults seconds) error-mask 4 ≡ number l error-mask 4
+  mask-stays = number-after error-mask 4 _ refl refl refl
 
   pub time-shown : seconds < 2 ^ 32 → number (values-after l was p valid faults seconds) power-on-time 4 ≡ seconds
   time-shown k = let e = from-little 4 seconds k in number-after power-on-time 4 _ refl e e

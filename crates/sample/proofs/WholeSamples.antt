@@ -1,19 +1,16 @@
--- Example K on the whole 1,024 values, then a NaN, and an image: by computation. Assumes nothing.
+-- Example K on the whole 1,024 values, then a NaN, a masked fault, and an image: by computation. Assumes nothing.
 use mathlib.Core.Path.{_≡_, refl}
 use mathlib.Core.List.{List, [], _∷_}
 use Prim.Native.Nat.{ℕ, _+_}
 use lib.ListN.{replicate}
-use lib.Ieee.{binary32, ofBits, toBits, lt, add, sub}
-use Rattle.wire.specs.Splice.{splice}
-use Rattle.wire.specs.Little.{little, fromLittle, number, put-number}
-use Rattle.wire.specs.Real.{real}
-use Rattle.wire.specs.Flags.{is-set}
+use lib.Ieee.{binary32, ofBits}
+use Rattle.wire.specs.Little.{number, put-number}
 use Rattle.trip.specs.declared.Trips.{Trips}
-use Rattle.trip.specs.Trip.{side-settled, low-next, high-next, point-next, finite, usable-pressure, off, point-after, all-off}
-use Rattle.table.specs.Places.{input-value, reading-valid, trip-outputs, settings-1, low-enable, low-level, low-hysteresis, underrange, active-word, latched-word, summary-byte, power-on-time}
-use Rattle.sample.specs.Faults.{kept-faults, with-faults, summary-of, with-summary}
-use Rattle.sample.specs.Sample.{settings, trips-after, with-reading, trip-word, with-trip-entries, values-after}
+use Rattle.trip.specs.Trip.{all-off}
+use Rattle.table.specs.Places.{input-value, reading-valid, trip-outputs, settings-1, low-enable, low-level, low-hysteresis, underrange, active-word, latched-word, error-mask, summary-byte, power-on-time}
+use Rattle.sample.specs.Sample.{trips-after, values-after}
 use Rattle.sample.specs.Image.{in-order, mapping, image-of}
+use Rattle.sample.proofs.Opened.{sample-opened}
 
 -- a sample, its pressure by the bit pattern
 pub record Sample : Type 0 where
@@ -70,12 +67,23 @@ pub example-K-whole :
     (2 ∷ 1 ∷ 0x3e800000 ∷ 0 ∷ 0x603 ∷ 0 ∷ 7 ∷ []) ∷
     (0 ∷ 0 ∷ 0x3e800000 ∷ 1 ∷ 0x603 ∷ 4 ∷ 2 ∷ []) ∷
     []
-unfolding splice little fromLittle number real side-settled low-next high-next point-next finite usable-pressure off point-after kept-faults with-faults summary-of with-summary is-set settings trips-after with-reading trip-word with-trip-entries values-after ofBits toBits lt add sub
+unfolding sample-opened
 example-K-whole = refl
+
+-- over temperature is masked: the words show it and the summary does not; filament 1 beside it is shown; nothing is left to show
+pub example-masked :
+    over-samples (put-number half-low error-mask 4 0x400) all-off
+    (sample 0x3f000000 1 0x400 1 ∷ sample 0x3f000000 1 0x401 2 ∷ sample 0x3f000000 1 0 3 ∷ [])
+    ≡ (0 ∷ 1 ∷ 0x3f000000 ∷ 0x400 ∷ 0x400 ∷ 0 ∷ 1 ∷ []) ∷
+    (0 ∷ 1 ∷ 0x3f000000 ∷ 0x401 ∷ 0x401 ∷ 4 ∷ 2 ∷ []) ∷
+    (0 ∷ 1 ∷ 0x3f000000 ∷ 0 ∷ 0x401 ∷ 0 ∷ 3 ∷ []) ∷
+    []
+unfolding sample-opened
+example-masked = refl
 
 -- the image after a sample at 0.25 with over temperature, underrange lent as 7: flags, input value, summary, outputs
 pub image-K :
     image-of (values-after (put-number half-low underrange 1 7) all-off (ofBits binary32 0x3e800000) 1 0x400 9)
     ≡ 0x05 ∷ 0x00 ∷ 0x00 ∷ 0x80 ∷ 0x3E ∷ 0x04 ∷ 0x02 ∷ 0x00 ∷ 0x00 ∷ 0x00 ∷ []
-unfolding splice little fromLittle number real side-settled low-next high-next point-next finite usable-pressure off point-after kept-faults with-faults summary-of with-summary is-set settings trips-after with-reading trip-word with-trip-entries values-after ofBits toBits lt add sub in-order mapping image-of
+unfolding sample-opened in-order mapping image-of
 image-K = refl

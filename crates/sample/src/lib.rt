@@ -12,10 +12,8 @@ ghost use mathlib.Core.Path.{_≡_};
 ghost use Prim.Native.Nat.{_+_, _≤_};
 ghost use lib.ListN.{length};
 ghost use lib.Ieee.{isNan};
-ghost use Rattle.wire.specs.Little.{put-number};
 ghost use Rattle.trip.specs.Trip.{all-off};
-ghost use Rattle.table.specs.Places.{summary-byte};
-ghost use Rattle.sample.specs.Faults.{kept-faults, with-faults, summary-of};
+ghost use Rattle.sample.specs.Faults.{kept-faults, with-faults, summary-of, with-summary};
 ghost use Rattle.sample.specs.Sample.{settings, trips-next, trips-after, with-pressure, with-none, with-reading, trip-word, with-trip-entries, values-after};
 
 fn settings_at(values: &[u8], at: usize) -> Point
@@ -139,16 +137,21 @@ fn put_faults(values: &mut [u8], faults: u32)
     wire::put_word(values, place::LATCHED_WORD, latched);
 }
 
-// The summary byte of an active word.
-pub fn put_summary(values: &mut [u8], active: u32)
-    requires { ⌜ length (now values) ≡ 1024 ⌝ }
-    ensures { λ _. ⌜ now (values .exit) ≡ put-number (now (values .entry)) summary-byte 1 (summary-of active) ⌝ }
+// The summary byte of an active word under its mask.
+fn summary_of(active: u32, mask: u32) -> u8
+    ensures { λ r. ⌜ r ≡ summary-of active mask ⌝ }
 {
-    if active == 0 {
-        wire::put_byte(values, place::SUMMARY_BYTE, 0);
-    } else {
-        wire::put_byte(values, place::SUMMARY_BYTE, 4);
-    }
+    if active & mask == active { 0 } else { 4 }
+}
+
+// The summary byte, worked out anew from the active word and its mask.
+pub fn put_summary(values: &mut [u8])
+    requires { ⌜ length (now values) ≡ 1024 ⌝ }
+    ensures { λ _. ⌜ now (values .exit) ≡ with-summary (now (values .entry)) ⌝ }
+{
+    let active = wire::word_at(values, place::ACTIVE_WORD);
+    let mask = wire::word_at(values, place::ERROR_MASK);
+    wire::put_byte(values, place::SUMMARY_BYTE, summary_of(active, mask));
 }
 
 pub fn taken(
@@ -165,7 +168,7 @@ pub fn taken(
 {
     let next = take(values, on, pressure, valid);
     put_faults(values, faults);
-    put_summary(values, wire::word_at(values, place::ACTIVE_WORD));
+    put_summary(values);
     wire::put_word(values, place::POWER_ON_TIME, seconds);
     next
 }

@@ -71,6 +71,14 @@ latched-status = 387
 abbrev pub latched-word : ℕ
 latched-word = 396
 
+-- F3A1:01
+abbrev pub masks : ℕ
+masks = 420
+
+-- F3A3:01
+abbrev pub error-mask : ℕ
+error-mask = 428
+
 -- F641:01
 abbrev pub trip-outputs : ℕ
 trip-outputs = 452
@@ -119,9 +127,13 @@ high-hysteresis = 26
 abbrev pub low-hysteresis : ℕ
 low-hysteresis = 30
 
--- the bytes of F390 to F398, which stand behind each other from F390:00 on
+-- the bytes of F390 to F398, which stand behind each other
 abbrev pub latched-size : ℕ
 latched-size = 33
+
+-- the bytes of F3A1 to F3A8, which stand behind each other
+abbrev pub masks-size : ℕ
+masks-size = 32
 
 -- an entry, its place and its length
 pub record Placed : Type 0 where
@@ -151,6 +163,8 @@ named-places =
     placed 0xF383 0x01 active-word 4 ∷
     placed 0xF390 0x00 latched-status 1 ∷
     placed 0xF393 0x01 latched-word 4 ∷
+    placed 0xF3A1 0x01 masks 4 ∷
+    placed 0xF3A3 0x01 error-mask 4 ∷
     placed 0xF641 0x01 trip-outputs 4 ∷
     placed 0xF9F6 0x00 power-on-time 4 ∷
     placed 0xFBF0 0x02 reset-status 1 ∷
@@ -180,3 +194,7 @@ named-places =
 -- what an exception reset clears: every subindex of these indices
 unfoldable pub latched : Row → Bool
 latched r = both (leb 0xF390 (r .index)) (leb (r .index) 0xF398)
+
+-- the masks of the detail words: every subindex of these indices
+unfoldable pub is-mask : Row → Bool
+is-mask r = both (leb 0xF3A1 (r .index)) (leb (r .index) 0xF3A8)

@@ -45,6 +45,12 @@ pub const LATCHED_STATUS: usize = 387;
 // F393:01
 pub const LATCHED_WORD: usize = 396;
 
+// F3A1:01
+pub const MASKS: usize = 420;
+
+// F3A3:01
+pub const ERROR_MASK: usize = 428;
+
 // F641:01
 pub const TRIP_OUTPUTS: usize = 452;
 
@@ -81,5 +87,8 @@ pub const HIGH_HYSTERESIS: usize = 26;
 // 800E:18 and 800F:18, counted from subindex 01
 pub const LOW_HYSTERESIS: usize = 30;
 
-// the bytes of F390 to F398, which stand behind each other from F390:00 on
+// the bytes of F390 to F398, which stand behind each other
 pub const LATCHED_SIZE: usize = 33;
+
+// the bytes of F3A1 to F3A8, which stand behind each other
+pub const MASKS_SIZE: usize = 32;

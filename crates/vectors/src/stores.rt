@@ -158,12 +158,12 @@ fn comes_back() {
     );
 }
 
-// Only NV entries are loaded: lock, summary and spare bytes stay.
+// Only NV entries are loaded: lock, summary and spare bytes stay. The summary is worked out behind it (masks.rt).
 fn others_stay() {
     let mut values = other_values();
     load::load(&default_block(), &mut values);
     compare_values(
-        b"load: lock, summary and spare bytes stay",
+        b"load alone: lock, summary and spare bytes stay",
         &values,
         &other_values(),
     );

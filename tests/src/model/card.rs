@@ -32,6 +32,11 @@ pub fn bits32(values: &Values, at: usize) -> u32 {
 }
 
 #[inline]
+pub fn set32(values: &mut Values, at: usize, value: u32) {
+    values[at..at + 4].copy_from_slice(&value.to_le_bytes());
+}
+
+#[inline]
 fn be32(card: &[u8; LENGTH], at: usize) -> u32 {
     u32::from_be_bytes([card[at], card[at + 1], card[at + 2], card[at + 3]])
 }

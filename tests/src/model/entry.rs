@@ -2,6 +2,7 @@
 
 use super::card;
 use super::code;
+use super::exception;
 use super::fault::{Fault, Mutant::*};
 use super::limits;
 use super::saved;
@@ -9,10 +10,6 @@ use super::table::{place, Kind, Row};
 use super::{Block, Values};
 
 const LOCK: usize = place(0x2003, 0);
-const SUMMARY: usize = place(0xF380, 0);
-const ACTIVE: usize = place(0xF383, 1);
-const LATCHED: usize = place(0xF390, 0);
-const LATCHED_END: usize = place(0xF398, 1) + 4;
 
 const RESET: u16 = 0xFBF0;
 const EXCEPTION_RESET: u16 = 0xFBF1;
@@ -113,7 +110,12 @@ pub fn write<F: Fault>(
             }
         }
         Kind::Command => return command(f, row, bytes, values, block),
-        _ => values[row.place as usize..row.place as usize + bytes.len()].copy_from_slice(bytes),
+        _ => {
+            values[row.place as usize..row.place as usize + bytes.len()].copy_from_slice(bytes);
+            if exception::acts(f, row) {
+                exception::summarize(f, values);
+            }
+        }
     }
     Ok(After::Nothing)
 }
@@ -124,13 +126,13 @@ fn command<F: Fault>(f: F, row: &Row, word: &[u8], values: &mut Values, block: &
         RESET if word == b"teser\0" || f.on(FactoryWordResets) && word == b"teserf" => return Ok(After::Reset),
         RESET => (WRONG, place(RESET, 2)),
         EXCEPTION_RESET if word == b"teser" => {
-            exception_reset(f, values);
+            exception::reset(f, values);
             (Some(true), place(EXCEPTION_RESET, 2))
         }
         EXCEPTION_RESET => (WRONG, place(EXCEPTION_RESET, 2)),
         STORE if word == b"save" => (Some(saved::store(f, values, block)), place(STORE, 2)),
         STORE => (WRONG, place(STORE, 2)),
-        _ if word == b"load" => (Some(saved::load(f, block, values)), place(LOAD, 2)),
+        _ if word == b"load" => (Some(load(f, block, values)), place(LOAD, 2)),
         _ => (WRONG, place(LOAD, 2)),
     };
     if done == WRONG && f.on(WrongWordRefused) {
@@ -138,6 +140,9 @@ fn command<F: Fault>(f: F, row: &Row, word: &[u8], values: &mut Values, block: &
     }
     if done == WRONG && f.on(WrongWordSilent) {
         return Ok(After::Nothing);
+    }
+    if done == WRONG && f.on(WrongWordActs) {
+        exception::summarize(f, values);
     }
     let number = if done == Some(true) { 0 } else { 2 };
     // the response stands behind the status
@@ -156,26 +161,17 @@ const _: () = {
     assert!(place(EXCEPTION_RESET, 3) == place(EXCEPTION_RESET, 2) + 1);
     assert!(place(STORE, 3) == place(STORE, 2) + 1);
     assert!(place(LOAD, 3) == place(LOAD, 2) + 1);
-    assert!(LATCHED_END == LATCHED + 1 + 8 * 4);
 };
 
-/// The summary byte of an active word: bit 2, Device Error.
-#[inline]
-pub fn summary<F: Fault>(f: F, active: u32) -> u8 {
-    let bit = if f.on(SummaryWrongBit) { 3 } else { 2 };
-    ((active != 0) as u8) << bit
-}
-
-fn exception_reset<F: Fault>(f: F, values: &mut Values) {
-    if f.on(ExceptionResetOneWord) {
-        values[place(0xF393, 1)..place(0xF393, 1) + 4].fill(0);
-    } else {
-        values[LATCHED..LATCHED_END].fill(0);
+/// A load that takes the block takes its masks, so it works the summary byte out. Power-up need not: its active word is zero.
+fn load<F: Fault>(f: F, block: &Block, values: &mut Values) -> bool {
+    if f.on(LoadActsFirst) && !saved::is_faulty(f, block) {
+        exception::summarize(f, values);
     }
-    if f.on(ExceptionResetClearsActive) {
-        values[ACTIVE..ACTIVE + 4].fill(0);
+    let taken = saved::load(f, block, values);
+    let acts = taken && !f.on(LoadKeepsSummary) && !f.on(LoadActsFirst);
+    if acts || f.on(FaultyLoadActs) {
+        exception::summarize(f, values);
     }
-    if !f.on(ExceptionResetKeepsSummary) {
-        values[SUMMARY] = summary(f, card::bits32(values, ACTIVE));
-    }
+    taken
 }

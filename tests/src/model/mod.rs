@@ -4,6 +4,7 @@
 mod card;
 pub mod code;
 mod entry;
+mod exception;
 pub mod fault;
 mod limits;
 mod sample;

@@ -1,7 +1,7 @@
-//! Samples, trips and words, and the cyclic image.
+//! Samples and trips, and the cyclic image.
 
-use super::card::{bits32, SIDES};
-use super::entry::summary;
+use super::card::{bits32, set32, SIDES};
+use super::exception;
 use super::fault::{Fault, Mutant::*};
 use super::table::place;
 use super::{State, Values, TRIPS};
@@ -14,19 +14,7 @@ const OVERRANGE: usize = place(0x6005, 2);
 const UNDERRANGE: usize = place(0x6005, 3);
 const TRIP_STATUS: [usize; 4] = [place(0x600E, 1), place(0x600E, 2), place(0x600F, 1), place(0x600F, 2)];
 const TRIP_ALL: usize = place(0xF641, 1);
-const SENSOR_ERROR: usize = place(0x9005, 2);
-const SUMMARY: usize = place(0xF380, 0);
-const ACTIVE: usize = place(0xF383, 1);
-const LATCHED: usize = place(0xF393, 1);
 const SECONDS: usize = place(0xF9F6, 0);
-
-/// Filaments 1 and 2, electronics, over temperature.
-const FAULTS: u32 = 1 << 0 | 1 << 1 | 1 << 9 | 1 << 10;
-
-#[inline]
-fn set32(values: &mut Values, at: usize, value: u32) {
-    values[at..at + 4].copy_from_slice(&value.to_le_bytes());
-}
 
 #[inline]
 fn side<F: Fault>(f: F, values: &Values, n: usize, p: f32, on: bool) -> bool {
@@ -81,13 +69,7 @@ pub fn sample<F: Fault>(f: F, pressure: f32, valid: u8, faults: u32, seconds: u3
         all |= (on as u32) << n;
     }
     set32(values, TRIP_ALL, all);
-
-    let faults = if f.on(AllFaultBits) { faults } else { faults & FAULTS };
-    values[SENSOR_ERROR..SENSOR_ERROR + 2].copy_from_slice(&(faults as u16).to_le_bytes());
-    set32(values, ACTIVE, faults);
-    let latched = if f.on(LatchedIsActive) { faults } else { bits32(values, LATCHED) | faults };
-    set32(values, LATCHED, latched);
-    values[SUMMARY] = summary(f, if f.on(SummaryFromLatched) { latched } else { faults });
+    exception::sample(f, faults, values);
     if !f.on(SecondsOnlyForward) || bits32(values, SECONDS) < seconds {
         set32(values, SECONDS, seconds);
     }
@@ -104,7 +86,7 @@ pub fn image<F: Fault>(f: F, values: &Values) -> [u8; 10] {
     if f.on(ImageBigEndian) {
         image[1..5].reverse();
     }
-    image[5] = if f.on(ImageWithoutSummary) { 0 } else { values[SUMMARY] };
+    image[5] = if f.on(ImageWithoutSummary) { 0 } else { values[exception::SUMMARY] };
     image[6..10].copy_from_slice(&values[TRIP_ALL..TRIP_ALL + 4]);
     image
 }

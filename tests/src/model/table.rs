@@ -32,6 +32,8 @@ pub struct Row {
     pub readable: bool,
     pub writable: bool,
     pub nv: bool,
+    /// A mask of exceptions, told once so that a write asks no index.
+    pub mask: bool,
     pub len: u8,
     /// First byte in the values; 0 for the card and the command words, which have none.
     pub place: u16,
@@ -48,6 +50,11 @@ impl Row {
     pub const fn has_place(&self) -> bool {
         !matches!(self.kind, Kind::Card | Kind::Command)
     }
+}
+
+/// Whether an index is that of a mask.
+pub const fn is_mask(index: u16) -> bool {
+    matches!(index, 0xF3A1..=0xF3A8)
 }
 
 const fn hex_digit(b: u8) -> Option<u64> {
@@ -174,6 +181,7 @@ const fn row(line: usize) -> Row {
         readable: !is(access, b"WO"),
         writable: !is(access, b"RO"),
         nv: is(cell(line, 4), b"NV"),
+        mask: is_mask(number(cell(line, 0), 16) as u16),
         len: number(cell(line, 5), 10) as u8,
         place: number(cell(line, 6), 10) as u16,
         min: number(cell(line, 7), 16),
@@ -193,6 +201,7 @@ const ALL: [Row; COUNT] = {
         readable: false,
         writable: false,
         nv: false,
+        mask: false,
         len: 0,
         place: 0,
         min: 0,

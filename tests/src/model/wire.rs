@@ -2,6 +2,7 @@
 
 use super::code;
 use super::entry::{self, After};
+use super::exception;
 use super::fault::{Fault, Mutant::*};
 use super::table::{self, Kind, Row, COUNT, ROWS};
 use super::{Block, Record, Values};
@@ -137,6 +138,9 @@ pub fn step<F: Fault>(f: F, message: &[u8; 8], record: &mut Record, values: &mut
                 *record = had;
             } else {
                 record.fill(0);
+            }
+            if exception::acts_refused(f, abort.key, abort.code) {
+                exception::summarize(f, values);
             }
             if f.on(NoTransferWithIndex) && abort.code == code::NO_TRANSFER {
                 abort.key = key_of(message);

@@ -11,7 +11,10 @@ place-of-requires : tie.Need-place-of-requires
 place-of-requires c κs = search needs
 
 returns : tie.Need-returns
-returns c = let b = c .before .before .before .before .before .before .before in stored-is (at-row (b .args .row)) (b .args .values .now) (c .before .before .before .place-of .ensures) (b .args .value .now) (c .before .before .copy-at .ensures)
+returns c =
+    let p = c .before .before .before .before .place-of .ensures in
+    let b = c .before .before .before .before .before .before .before in
+    (p, stored-is (at-row (b .args .row)) (b .args .values .now) p (b .args .value .now) (c .before .before .copy-at .ensures))
 
 copy-at-requires : tie.Need-copy-at-requires
 copy-at-requires c κs =

@@ -1,6 +1,5 @@
 -- `command::exception::clear_latched`: two writes. Assumes nothing.
 use borrow.Author.Needs.{needs}
-use Rattle.sample.specs.Faults.{with-summary}
 use Rattle.command.specs.Exceptions.{exceptions-cleared}
 use Rattle.command.proofs.exception.clear_latched.Statement.{statement}
 use Rattle.command.proofs.exception.clear_latched.Tie as tie
@@ -11,9 +10,6 @@ slice-aggregate-copy-at c = search needs
 copy-at-requires : tie.Need-copy-at-requires
 copy-at-requires c κs = search needs
 
-word-at-requires : tie.Need-word-at-requires
-word-at-requires c κs = search needs
-
 put-summary-requires : tie.Need-put-summary-requires
 put-summary-requires c κs = search needs
 
@@ -21,13 +17,13 @@ same-length : tie.Need-same-length
 same-length c = search needs
 
 returns : tie.Need-returns
-unfolding exceptions-cleared with-summary
+unfolding exceptions-cleared
 returns c =
     let p = c .before .before in
-    let q = p .before .before .before .before .before .before in
-    rw (p .put-summary .ensures, p .before .word-at .ensures, q .copy-at .ensures)
+    let q = p .before .before .before .before in
+    rw (p .put-summary .ensures, q .copy-at .ensures)
 
 pub clear-latched-spec : {M : Type 1} → statement M
 clear-latched-spec =
     tie.close
-    (tie.spec slice-aggregate-copy-at copy-at-requires word-at-requires put-summary-requires same-length returns)
+    (tie.spec slice-aggregate-copy-at copy-at-requires put-summary-requires same-length returns)

@@ -34,8 +34,8 @@ set-status-requires-2 c κs = search needs
 enum-told-4 : tie.Need-enum-told-4
 enum-told-4 c = search needs
 
-load-requires : tie.Need-load-requires
-load-requires c κs = search needs
+take-block-requires : tie.Need-take-block-requires
+take-block-requires c κs = search needs
 
 status-by-requires-2 : tie.Need-status-by-requires-2
 status-by-requires-2 c κs = search needs
@@ -82,7 +82,7 @@ same-length-7 c = search needs
 returns-4 : tie.Need-returns-4
 returns-4 c =
     let s = c .before .before .before .before .before .before .before .before .before .before .before .before .before .before in
-    rw (c .before .before .before .before .before .before .before .before .before .before .enum-told4 .given .1) (load-done (s .args .values .now) (s .args .block .now) (c .before .before .before .before .before .before .before .load .ensures .0) (c .before .before .before .before .before .before .before .load .ensures .1) (c .before .before .before .before .status-by2 .ensures) (c .before .before .set-status3 .ensures))
+    rw (c .before .before .before .before .before .before .before .before .before .before .enum-told4 .given .1) (load-done (s .args .values .now) (s .args .block .now) (c .before .before .before .before .before .before .before .take-block .ensures .0) (c .before .before .before .before .before .before .before .take-block .ensures .1) (c .before .before .before .before .status-by2 .ensures) (c .before .before .set-status3 .ensures))
 
 pub carry-out-spec : {M : Type 1} → statement M
 carry-out-spec =
@@ -98,7 +98,7 @@ carry-out-spec =
     status-by-requires
     set-status-requires-2
     enum-told-4
-    load-requires
+    take-block-requires
     status-by-requires-2
     set-status-requires-3
     same-length
