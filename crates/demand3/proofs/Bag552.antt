@@ -265,14 +265,14 @@ abbrev pub GoodStore : Store → Type 0
 GoodStore g = Sized (g .memory)
 
 pub real-rows : Rows bag552 GoodStore
-real-rows = rows-hold Sized (λ m s. s .values-are) (λ k h e. commit-sized k h) sample-sized
+real-rows = rows-hold Sized (λ m s. s .values-are) (λ k h e bytes n m s. commit-sized k h bytes m s n) sample-sized
 
 pub powered-good : (block : List ℕ) → length block ≡ 512 → GoodStore (powered-store block)
 powered-good block n = record { values-are = fresh-length _; block-is = n }
 
 -- what the two lines keep in their records
 pub kept-records : Keeps setup transfers GoodStore Whole
-kept-records = records-hold Sized (λ m s. s .values-are) (λ k h e. commit-sized k h) sample-sized
+kept-records = records-hold Sized (λ m s. s .values-are) (λ k h e bytes n m s. commit-sized k h bytes m s n) sample-sized
 
 -- THEOREM: demand 3 for the board with its records by value, for every list of messages and samples from power-up
 pub demand3-board : (block : List ℕ) → length block ≡ 512 → (cs : List (Call setup)) → Demand3Records setup transfers (powered-store block) cs

@@ -13,7 +13,6 @@ use Rattle.order.proofs.Kept.{Shows, shows-start, shows-end}
 use Rattle.table.specs.Row.{RO}
 use Rattle.table.specs.Rows.{row-count, at-row}
 use Rattle.trip.specs.declared.Trips.{Trips}
-use Rattle.card.proofs.Stored.{with-card-length}
 use Rattle.sample.specs.Sample.{values-after}
 use Rattle.command.specs.Words.{with-status}
 use Rattle.command.specs.Exceptions.{exceptions-cleared}
@@ -26,13 +25,13 @@ use Rattle.gauge.specs.Commands.{done}
 use Rattle.gauge.specs.Whole.{commit-row}
 use Rattle.gauge.proofs.CommitLaws.{other-held}
 use Rattle.gauge.proofs.GaugeLaws.{status-summed, cleared-length, cleared-summed}
-use Rattle.gauge.proofs.SummaryLaws.{card-summed, sample-summed, written-length, written-summed, taken-length, taken-summed, fresh-summed}
+use Rattle.gauge.proofs.SummaryLaws.{card-summed, sample-summed, written-summed, taken-length, taken-summed, fresh-summed}
 use Rattle.board.specs.Calls.{power-up-call}
 use Rattle.transfer.specs.Records.{transfers}
 use Rattle.transfer.proofs.RecordLaws.{Whole}
 use Rattle.demand3.specs.Firmware.{setup, Exported, history, final, power-on, calls-in, board-in, powered-store}
 use Rattle.demand3.proofs.WholeWrites.{After, commit-after}
-use Rattle.demand3.proofs.Lengths.{Sized, fresh-sized, sample-sized, status-sized, done-sized}
+use Rattle.demand3.proofs.Lengths.{Sized, fresh-sized, sample-sized, status-sized, done-sized, card-sized, entry-sized}
 use Rattle.demand3.proofs.Bag552.{Holds, records-hold}
 use Rattle.demand3.proofs.Calls.{same-run, powered-lengths, powered-lent, powered-board}
 
@@ -81,16 +80,13 @@ done-upheld LoadParameters m u =
 commit-upheld : (k : ℕ) → k < row-count → eqb (at-row k .access) RO ≡ false → (bytes : List ℕ) → length bytes ≡ at-row k .len → (m : Memory) → Upheld m → After Upheld (commit-row k bytes m)
 commit-upheld k there writable bytes long m u =
     commit-after Upheld k bytes m
-    (record {
-      sized = record { values-are = with-card-length (m .values) bytes (u .sized .values-are); block-is = u .sized .block-is };
-      summed = card-summed (m .values) bytes (u .sized .values-are) (u .summed);
-    })
+    (record { sized = card-sized bytes m (u .sized); summed = card-summed (m .values) bytes (u .sized .values-are) (u .summed) })
     (λ c. done-upheld c m u)
     (λ c. status-upheld c 2 (m .values) (m .block) u)
     (λ p q.
     let fit = long ∙ sym (other-held k there p q) in
     record {
-      sized = record { values-are = written-length k there (m .values) bytes (u .sized .values-are) fit; block-is = u .sized .block-is };
+      sized = entry-sized k there bytes m (u .sized) fit;
       summed = written-summed k there (m .values) bytes (u .sized .values-are) fit writable (u .summed);
     })
 

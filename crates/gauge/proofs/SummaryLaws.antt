@@ -55,7 +55,7 @@ module _ (values : List ℕ) (long : length values ≡ 1024) where
   unfolding with-summary
   summary-leaves = spare is-summary summary-byte 1 summary-spared values (little 1 _) (rw long) (length-little 1 _)
 
-  pub heeding-length : (came : Bool) → length (heeding came values) ≡ 1024
+  heeding-length : (came : Bool) → length (heeding came values) ≡ 1024
   unfolding heeding
   heeding-length true = summary-length
   heeding-length false = long
