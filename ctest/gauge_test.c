@@ -1,5 +1,5 @@
-/* The board as C firmware calls it: power-up, the examples of docs/RULES.md, refusals, samples, masks and the image. Every buffer stands
- * between guard bytes. Prints what fails; the exit status is 0 if nothing does. */
+/* The board as C firmware calls it: power-up, the examples of docs/RULES.md, refusals, samples, masks, crossed trip points and the image.
+ * Every buffer stands between guard bytes. Prints what fails; the exit status is 0 if nothing does. */
 #include "check.h"
 #include "gauge.h"
 
@@ -43,6 +43,14 @@ static int guards_hold(void)
            all(board.guard3, GUARD, 0xA4) && all(board.guard4, GUARD, 0xA5);
 }
 
+/* power-up on the block as it stands */
+static void restart(void)
+{
+    CHECK(gauge_power_up(board.values, sizeof board.values, board.block, sizeof board.block, board.state, sizeof board.state) ==
+          GAUGE_DONE);
+    CHECK(guards_hold());
+}
+
 /* power-up on a zero block, whatever the memory held */
 static void start(void)
 {
@@ -53,9 +61,7 @@ static void start(void)
     memset(board.guard3, 0xA4, GUARD);
     memset(board.guard4, 0xA5, GUARD);
     memset(board.block, 0, sizeof board.block);
-    CHECK(gauge_power_up(board.values, sizeof board.values, board.block, sizeof board.block, board.state, sizeof board.state) ==
-          GAUGE_DONE);
-    CHECK(guards_hold());
+    restart();
 }
 
 static uint32_t send(uint32_t line, const uint8_t message[8], size_t room)
@@ -240,6 +246,57 @@ static void masks(void)
     TALK(0, "40 93 F3 01", "43 93 F3 01");
 }
 
+/* a card with both sides of trip point 1 enabled: high level 1, low level 0.5, or 1 if it has to be crossed */
+static void send_card(int crossed)
+{
+    TALK(0, "21 10 20 00 21", "60 10 20 00");
+    TALK(0, "00 1C FE 00 00 00 00 00", "20");
+    TALK(0, crossed ? "10 00 00 FE 00 00 00 00" : "10 00 00 FC 00 00 00 00", "30");
+    TALK(0, "00", "20");
+    TALK(0, "10", "30");
+    TALK(0, "05", crossed ? "80 10 20 00 36 00 09 06" : "20");
+}
+
+/* a low level that is not below the high level is refused where both sides are enabled, and so is a saved block that has one */
+static void crossed(void)
+{
+    uint8_t high_enabled[GAUGE_BLOCK_SIZE];
+    size_t i;
+    start();
+    TALK(0, "2F 0E 80 01 01", "60 0E 80 01");
+    TALK(1, "23 F2 FB 01 73 61 76 65", "60 F2 FB 01"); /* kept for below */
+    memcpy(high_enabled, board.block, sizeof high_enabled);
+    before = board;
+    TALK(0, "2F 0E 80 02 01", "80 0E 80 02 36 00 09 06"); /* both levels are 0 */
+    CHECK(same(before.values, board.values, sizeof board.values) && same(before.block, board.block, sizeof board.block));
+    CHECK(same(before.state, board.state, sizeof board.state));
+    TALK(0, "23 0E 80 11 00 00 80 3F", "60 0E 80 11"); /* high level 1, low level 0.5 */
+    TALK(0, "23 0E 80 14 00 00 00 3F", "60 0E 80 14");
+    TALK(0, "2F 0E 80 02 01", "60 0E 80 02");
+    TALK(1, "23 0E 80 14 00 00 80 3F", "80 0E 80 14 36 00 09 06");
+    TALK(1, "40 0E 80 14", "43 0E 80 14 00 00 00 3F");
+    start();
+    before = board;
+    send_card(1);
+    CHECK(same(before.values, board.values, sizeof board.values));
+    send_card(0);
+    TALK(1, "40 0E 80 02", "4F 0E 80 02 01");
+    start(); /* levels of 0 and one side enabled in each of two blocks: together they are crossed */
+    TALK(0, "2F 0E 80 02 01", "60 0E 80 02");
+    TALK(1, "23 F2 FB 01 73 61 76 65", "60 F2 FB 01");
+    restart();
+    TALK(0, "40 0E 80 02", "4F 0E 80 02 01");
+    for (i = 0; i < sizeof high_enabled; i++) {
+        board.block[i] |= high_enabled[i];
+    }
+    TALK(1, "23 F4 FB 01 6C 6F 61 64", "60 F4 FB 01");
+    TALK(1, "40 F4 FB 02", "4F F4 FB 02 02");
+    TALK(0, "40 0E 80 01", "4F 0E 80 01");
+    restart();
+    TALK(0, "40 0E 80 01", "4F 0E 80 01");
+    TALK(0, "40 0E 80 02", "4F 0E 80 02");
+}
+
 /* store, load and device reset */
 static void commands(void)
 {
@@ -262,8 +319,7 @@ static void commands(void)
     TALK(0, "60", "80 00 00 00 01 00 04 05");
     TALK(0, "40 0E 80 02", "4F 0E 80 02 01");
     board.block[511] = 1; /* a damaged block: defaults */
-    CHECK(gauge_power_up(board.values, sizeof board.values, board.block, sizeof board.block, board.state, sizeof board.state) ==
-          GAUGE_DONE);
+    restart();
     TALK(0, "40 0E 80 02", "4F 0E 80 02");
 }
 
@@ -326,6 +382,7 @@ int main(void)
     examples();
     samples();
     masks();
+    crossed();
     commands();
     refusals();
     return closed("C test");

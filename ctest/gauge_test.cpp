@@ -8,7 +8,7 @@
 
 namespace {
 
-static_assert(GAUGE_VERSION_MAJOR == 1 && GAUGE_VERSION_MINOR == 0, "the header's version");
+static_assert(GAUGE_VERSION_MAJOR == 1 && GAUGE_VERSION_MINOR == 1, "the header's version");
 static_assert(std::is_same<decltype(&gauge_power_up), uint32_t (*)(uint8_t *, size_t, const uint8_t *, size_t,
                                                                         uint8_t *, size_t)>::value,
               "power-up's block is lent for reading");
@@ -69,11 +69,13 @@ int main()
 {
     static const std::array<uint8_t, GAUGE_BLOCK_SIZE> never_stored{};
     const Message enable_low{0x2F, 0x0E, 0x80, 0x02, 0x01}, low_level{0x23, 0x0E, 0x80, 0x14, 0, 0, 0, 0x3F};
+    const Message enable_high{0x2F, 0x0E, 0x80, 0x01, 0x01};
     const Message save{0x23, 0xF2, 0xFB, 0x01, 0x73, 0x61, 0x76, 0x65}, read_level{0x40, 0x0E, 0x80, 0x14};
 
     Board board(never_stored);
     check(board.say(GAUGE_LINE_TOOL, enable_low) == Message{0x60, 0x0E, 0x80, 0x02}, "low enable");
     check(board.say(GAUGE_LINE_SERVICE, low_level) == Message{0x60, 0x0E, 0x80, 0x14}, "low level");
+    check(board.say(GAUGE_LINE_TOOL, enable_high) == Message{0x80, 0x0E, 0x80, 0x01, 0x36, 0x00, 0x09, 0x06}, "a crossed trip point");
     board.sample(0.25f);
     check(board.image() == Image{1, 0, 0, 0x80, 0x3E, 0, 2}, "the image of 0.25, trip point 1 on at its low side");
     check(board.say(GAUGE_LINE_TOOL, save) == Message{0x60, 0xF2, 0xFB, 0x01}, "a store");

@@ -13,7 +13,7 @@ extern "C" {
 /* The major number rises when firmware that was right with the header before may go wrong (a call, a size, a number or a layout is
  * another), the minor one when something is added and such firmware stays right. */
 #define GAUGE_VERSION_MAJOR 1u
-#define GAUGE_VERSION_MINOR 0u
+#define GAUGE_VERSION_MINOR 1u
 
 /* sizes of what is lent */
 #define GAUGE_VALUES_SIZE 1024u

@@ -38,6 +38,7 @@ def meant(root):
         "wire": {},
         "bits": {},
         "limits": {},
+        "crossed": {},
         "card": field | value,
         "enter": field,
         "block": {},

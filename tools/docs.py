@@ -209,13 +209,15 @@ ASKED = [
     ("Table", [("crates/table/specs/Rule.antt", "table-ok"), ("crates/table/specs/Rows.antt", "rows")], []),
     ("Search", [("crates/table/specs/Halve.antt", name) for name in ("look-count", "told")] + [("crates/table/specs/Find.antt", "find-row")], []),
     ("Summary", [("crates/gauge/specs/Masks.antt", "Summed"), (FIRMWARE, "final"), (FIRMWARE, "power-on")], CALLS),
+    ("Trip points", [("crates/crossed/specs/Crossed.antt", "straight"), (FIRMWARE, "final"), (FIRMWARE, "power-on")], CALLS),
     ("`talk`", [
         ("crates/dialogue/specs/Text.antt", "spoken"), ("crates/dialogue/specs/Lines.antt", "lines"),
         ("crates/talk/specs/Turns.antt", "taken"), ("crates/talk/specs/Run.antt", "after-lines")], CALLS),
     ("Boards", [
         ("crates/demand3/specs/%s.antt" % file, name) for file, names in (
             ("Promised", "Meets Power-up-promised Sample-promised Image-promised"), ("Refused", "Aborts Sends Forgets Fakes"),
-            ("Conversation", "gives expected"), ("Examples", "cases"), ("CoatingShop", "story"), ("Fab", "asked-in expected-in fab")) for name in names.split()], CALLS),
+            ("Conversation", "gives expected"), ("Examples", "cases"), ("CoatingShop", "story"), ("Fab", "asked-in expected-in fab"),
+            ("Relay", "relay")) for name in names.split()], CALLS),
 ]
 
 

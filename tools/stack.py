@@ -22,7 +22,7 @@ GOAL = 200
 LAYERS = {"card": "card", "enter": "card", "find": "search", "gate": "search", "transfer": "record", "state": "record",
           "block": "block", "load": "block", "store": "block"}
 # these belong to the layer that calls them
-HELPERS = ("wire", "bits", "limits", "table")
+HELPERS = ("wire", "bits", "limits", "crossed", "table")
 CALL = "board::gauge_message"
 
 
@@ -93,8 +93,8 @@ def sent(key, value):
 def dialogues():
     """(name as the benchmark has it, messages of which the last is the call, its answer) of each call that has to do with the card."""
     card, store, load = bytes.fromhex("102000"), bytes.fromhex("F2FB01"), bytes.fromhex("F4FB01")
-    # both points enabled, all numbers 0; the last of them -1
-    good = bytes([0x1C, *bytes(15), 0x03, *bytes(16)])
+    # both points enabled, high levels 1, the other numbers 0; the last of them -1
+    good = bytes([0x1C, 0xFE, *bytes(14), 0x03, 0x3F, 0x80, *bytes(14)])
     bad = good[:29] + bytes.fromhex("BF800000")
     saved = sent(card, good) + [opened(0x23, store, b"save")]
     return [

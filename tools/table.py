@@ -62,12 +62,18 @@ BEHIND = [
 # entries that stand behind each other: the test of a row, what they are, the name of their size, their first and last index
 SPANS = [
     ("latched", "what an exception reset clears", "latched-size", 0xF390, 0xF398),
-    ("is-mask", "the masks of the detail words", "masks-size", 0xF3A1, 0xF3A8)]
+    ("is-mask", "the masks of the detail words", "masks-size", 0xF3A1, 0xF3A8),
+    ("of-point-1", "the settings of trip point 1", "settings-1-size", 0x800E, 0x800E),
+    ("of-point-2", "the settings of trip point 2", "settings-2-size", 0x800F, 0x800F)]
 
 # a trip point's settings, counted from the first of them: the same in 800E and 800F
 SETTINGS = [
     ("high-enable", 0x01), ("low-enable", 0x02), ("high-level", 0x11), ("low-level", 0x14), ("high-hysteresis", 0x17),
     ("low-hysteresis", 0x18)]
+
+# the objects of the trip points, and the settings that a crossed one is known by
+POINTS = (0x800E, 0x800F)
+CROSSED_BY = SETTINGS[:4]
 
 # areas of the index without rows (crates/table/specs/Areas.antt, crates/find/src/area.rt): their first and last index
 EMPTY_AREAS = [(0x0000, 0x0FFF), (0x7000, 0x7FFF), (0xA000, 0xEFFF)]
@@ -228,11 +234,33 @@ def table_problems(rows, end):
     if len(limit_pairs(rows)[0]) > 64:
         yield "there are more than 64 pairs of limits"
     there = {(row["index"], row["sub"]) for row in rows}
-    settings = [(name, index, sub) for index in (0x800E, 0x800F) for name, sub in SETTINGS]
+    settings = [(name, index, sub) for index in POINTS for name, sub in SETTINGS]
     behind = [("the one behind " + name, index, sub) for name, index, sub in BEHIND]
     for name, index, sub in PLACES + behind + ROWS + settings:
         if (index, sub) not in there:
             yield "there is no row %04X:%02X, which the code knows as %s" % (index, sub, name)
+    yield from point_problems(rows)
+
+
+def fields_of(rows, index):
+    """What a crossed trip point is known by: the rows of both enables, of high and low level, as far as they are there."""
+    return [row for _, sub in CROSSED_BY for row in rows if (row["index"], row["sub"]) == (index, sub)]
+
+
+def point_problems(rows):
+    """The rule for the trip points, in words."""
+    fields = [fields_of(rows, index) for index in POINTS]
+    if any(len(four) != len(CROSSED_BY) for four in fields):
+        return
+    for row in sum(fields, []):
+        if not row["nv"]:
+            yield "%04X:%02X has no NV mark, and a crossed trip point of the saved block is known by it" % (row["index"], row["sub"])
+    starts = [[nv_rows(rows).index(row) for row in four if row["nv"]] for four in fields]
+    if len({tuple(n - start[0] for n in start) for start in starts if start}) > 1:
+        yield "the settings of the two trip points are stored differently"
+    for index, (high, low, top, bottom) in zip(POINTS, fields):
+        if high["def"] and low["def"] and rank(bottom, bottom["def"]) >= rank(top, top["def"]):
+            yield "the defaults of %04X leave its trip point crossed: its high side's is to be 00" % index
 
 
 def broken_rules(rows, end):
@@ -321,6 +349,8 @@ nv-count = %d
 abbrev pub nv-end : ℕ
 nv-end = %d
 """ % (len(rows), [key(row) for row in rows].index(0x200300), len(nv_rows(rows)), block_end(rows)))
+    for name, number, what in nv_settings(nv_rows(rows)):
+        lines.append("\n-- %s\nabbrev pub %s : ℕ\n%s = %d\n" % (what, name, name, number))
     return "".join(lines)
 
 
@@ -335,17 +365,26 @@ def places(rows):
         named.append((name, offset, "800E:%02X and 800F:%02X, counted from subindex 01" % (sub, sub)))
     for _, _, size, low, high in SPANS:
         number = sum(held(row) for row in rows if low <= row["index"] <= high)
-        named.append((size, number, "the bytes of %04X to %04X, which stand behind each other" % (low, high)))
+        named.append((size, number, "the bytes of %s, which stand behind each other" % span_shown(low, high)))
     return named
+
+
+def span_shown(low, high):
+    return "%04X" % low if low == high else "%04X to %04X" % (low, high)
+
+
+def span_test(low, high):
+    """Whether a row is of these indices."""
+    return "eqb (r .index) 0x%04X" % low if low == high else "both (leb 0x%04X (r .index)) (leb (r .index) 0x%04X)" % (low, high)
 
 
 def places_antt(rows):
     text = """-- RULE: the places in the values that have names. tools/table.py writes this file; that they are the table's is computed in
--- proofs/Placed.antt. Assumes nothing.
+-- proofs/Placed.antt, and that a row is told by such a span in the crate gauge. Assumes nothing.
 use Prim.Native.Nat.{ℕ, _+_}
 use mathlib.Core.Bool.{Bool}
 use mathlib.Core.List.{List, [], _∷_}
-use lib.Dec.{leb}
+use lib.Dec.{leb, eqb}
 use Rattle.table.specs.Row.{Row}
 use Rattle.table.specs.Walk.{both}
 """
@@ -376,10 +415,10 @@ named-places =
     text += "    []\n"
     for test, what, _, low, high in SPANS:
         text += """
--- %s: every subindex of these indices
+-- %s: every subindex of %s
 unfoldable pub %s : Row → Bool
-%s r = both (leb 0x%04X (r .index)) (leb (r .index) 0x%04X)
-""" % (what, test, test, low, high)
+%s r = %s
+""" % (what, span_shown(low, high), test, test, span_test(low, high))
     return text
 
 
@@ -488,9 +527,19 @@ pub const NV_ROWS: usize = %d;
 // The bit of the saved block behind the last entry.
 pub const NV_END: usize = %d;
 """ % (len(rows), len(nv), block_end(rows))
+    for name, number, what in nv_settings(nv):
+        text += "\n// %s\npub const %s: usize = %d;\n" % (what, name.replace("-", "_").upper(), number)
     for name, kind, cells in columns:
         text += "\npub const %s: [%s; %d] = [\n%s];\n" % (name, kind, len(cells), "".join("    %d,\n" % c for c in cells))
     return text
+
+
+def nv_settings(nv):
+    """(name, number, what it is) of what a crossed trip point shows by, among the NV rows."""
+    one, two = ([nv.index(row) for row in fields_of(nv, index)] for index in POINTS)
+    named = [("nv-point-1", one[0], "800E:01, a number among the NV rows"), ("nv-point-2", two[0], "800F:01, a number among the NV rows")]
+    return named + [("nv-" + name, number - one[0], "800E:%02X and 800F:%02X, so many NV rows behind subindex 01" % (sub, sub))
+                    for (name, sub), number in zip(CROSSED_BY, one)]
 
 
 def read_text(path):

@@ -210,6 +210,35 @@ def with_rows(form, count):
     return page({number: "\n".join([LINES[number - 1]] + [f"| {0x2100 + n:04X} | 00 | {form}".format(n=n) for n in range(count)])})
 
 
+def with_defaults(index, **defaults):
+    """The page with other defaults of an object, by subindex, as `s11`."""
+    keys = {f"{index}:{sub[1:]}": text for sub, text in defaults.items()}
+    return page({number_of(key): with_cell(key, "Default", text) for key, text in keys.items()})
+
+
+def trip_defaults(folder):
+    """Defaults that leave a trip point crossed, and those that just do not."""
+    for index in ("800E", "800F"):
+        reason = f"the defaults of {index} leave its trip point crossed: its high side's is to be 00"
+        refused(folder, f"{index}, both sides at 0", with_defaults(index, s01="01", s02="01"), 0, reason)
+        refused(folder, f"{index}, zero and minus zero", with_defaults(index, s01="01", s02="01", s14="80000000"), 0, reason)
+        refused(folder, f"{index}, low above high", with_defaults(index, s01="01", s02="01", s11="3F800000", s14="3F800001"), 0, reason)
+        for sub in ("01", "02", "11", "14"):
+            unmarked = page({number_of(f"{index}:{sub}"): with_cell(f"{index}:{sub}", "NV", "-")})
+            lay(folder, unmarked)
+            done = run(folder, "--check")
+            wanted = f"{table.PAGE}: {index}:{sub} has no NV mark, and a crossed trip point of the saved block is known by it\n"
+            note(f"{index}:{sub} not NV", done.returncode == 1 and wanted in done.stderr and "Traceback" not in done.stderr, done.stderr)
+        refused(folder, f"{index}:13 not NV", page({number_of(f"{index}:13"): with_cell(f"{index}:13", "NV", "-")}), 0,
+                "the settings of the two trip points are stored differently")
+        for name, text in [
+                ("low just below high", with_defaults(index, s01="01", s02="01", s11="3F800000", s14="3F7FFFFF")),
+                ("the low side alone", with_defaults(index, s02="01", s14="3F800000"))]:
+            lay(folder, text)
+            done = run(folder)
+            note(f"{index}, {name}", done.returncode == 0, done.stderr)
+
+
 def whole_table(folder):
     """Pages whose every row is good, and that break the rule of the whole table."""
     rows = "there are {} rows: the table has at most 511, and columns have a page from row 128 on"
@@ -265,7 +294,7 @@ def good_pages(folder):
 
 with tempfile.TemporaryDirectory() as copy:
     copied(copy)
-    for tests in (bad_cells, bad_lines, broken_rules, whole_table, good_pages):
+    for tests in (bad_cells, bad_lines, broken_rules, whole_table, trip_defaults, good_pages):
         tests(copy)
 print(f"{results[True]} passed, {results[False]} failed")
 sys.exit(results[False] != 0)

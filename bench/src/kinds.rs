@@ -2,7 +2,7 @@
 
 use board_tests::board::Memory;
 use board_tests::model;
-use board_tests::plain::{bits_of, bytes_of, lines, Line};
+use board_tests::plain::{bits_of, bytes_of, lines, Line, Plain};
 use board_tests::trace::{Op, Style, Trace};
 
 #[derive(Clone)]
@@ -172,6 +172,8 @@ pub fn kinds() -> Vec<Kind> {
     list.each("card write", "message", &fresh, &write(the_card, &good_card));
     let refused = card([2.0, 0.5, 0.25, 0.125, 20.0, 5.0, 0.5, -1.0]);
     list.each("card write, last field bad", "message", &fresh, &write(the_card, &refused));
+    let equal = card([2.0, 0.5, 0.25, 0.125, 20.0, 5.0, 20.0, 0.0625]);
+    list.each("card write, crossed", "message", &fresh, &write(the_card, &equal));
     list.all("label read, six messages", &fresh, &read(label));
     list.all("label write, six messages", &fresh, &write(label, &[0x41; 32]));
     let mut locked = fresh.clone();
@@ -203,16 +205,22 @@ pub fn kinds() -> Vec<Kind> {
     prepare(&mut masked, &write(mask, &[0, 4, 0, 0]));
     prepare(&mut masked, &write(store, b"save"));
     model::sample(0.5, 1, 0x401, 1, &mut masked.values, &mut masked.state);
+    // trip point 2 is crossed, in the values and by the block
+    let mut crossed = stored.clone();
+    crossed.values[find(0x800F, 0x14).place.unwrap()..][..4].copy_from_slice(&1500f32.to_le_bytes());
+    crossed.block = Plain::pack(&table, |line| crossed.values[line.place.unwrap()..][..line.length].to_vec());
     let mut outside = fresh.clone();
     let total = find(0xF840, 3);
     outside.values[total.place.unwrap()] = 0;
     list.one("store", "command", &fresh, write(store, b"save")[0], true);
     list.one("store, refused at the last limit", "command", &outside, write(store, b"save")[0], true);
+    list.one("store, crossed", "command", &crossed, write(store, b"save")[0], true);
     list.one("store, wrong word", "command", &fresh, write(store, b"SAVE")[0], true);
     for memory in [&stored, &masked] {
         list.one("load", "command", memory, write(load, b"load")[0], true);
     }
     list.one("load, block faulty at its end", "command", &damaged, write(load, b"load")[0], true);
+    list.one("load, crossed block", "command", &crossed, write(load, b"load")[0], true);
     list.one("load, zero block", "command", &fresh, write(load, b"load")[0], true);
     for (name, memory) in [("good", &stored), ("faulty", &damaged)] {
         let messages = write(reset, b"teser\0");
@@ -230,7 +238,19 @@ pub fn kinds() -> Vec<Kind> {
         list.one("mask write", "message", memory, write(mask, &[0, 4, 0, 0])[0], true);
     }
 
-    for (name, memory) in [("zero block", &fresh), ("good block", &stored), ("block faulty at its end", &damaged)] {
+    // all sides are enabled: each setting is written as it stands, then levels that cross
+    for line in table.iter().filter(|line| matches!(line.index, 0x800E | 0x800F)) {
+        let value = &stored.values[line.place.unwrap()..][..line.length];
+        list.one("trip entry write", "message", &stored, write(line, value)[0], true);
+    }
+    for (index, sub, level) in [(0x800E, 0x11, 0.25f32), (0x800E, 0x14, 2.0), (0x800F, 0x11, 0.5), (0x800F, 0x14, 20.0)] {
+        let message = write(find(index, sub), &level.to_le_bytes())[0];
+        list.one("trip entry write, crossed", "message", &stored, message, true);
+    }
+
+    let blocks =
+        [("zero block", &fresh), ("good block", &stored), ("block faulty at its end", &damaged), ("crossed block", &crossed)];
+    for (name, memory) in blocks {
         list.add(&format!("power-up, {name}"), "power-up", memory, vec![Call::PowerUp], true);
     }
 

@@ -3,6 +3,7 @@
 //! The plain gauge does whole reads and writes one at a time. It is written for the reader, not for speed, and shares no code
 //! with the independent board: entries are byte strings found by their key, cards and saved blocks are lists of bits.
 
+use std::cmp::Ordering;
 use std::collections::BTreeMap;
 
 const PAGE: &str = include_str!("../../docs/object-table.md");
@@ -117,8 +118,22 @@ pub enum Length {
     Unknown,
 }
 
+/// A side of a trip point: whether it is enabled, and its level.
+type Side = (bool, f32);
+
+/// Whether a trip point is crossed: both sides are enabled, and the low level is not less than the high level.
+fn crossed(high: Side, low: Side) -> bool {
+    match (high, low) {
+        ((true, high), (true, low)) => !matches!(low.partial_cmp(&high), Some(Ordering::Less)),
+        _ => false,
+    }
+}
+
 pub const SIDES: [(u16, u8, u8, u8); 4] =
     [(0x800E, 0x01, 0x11, 0x17), (0x800E, 0x02, 0x14, 0x18), (0x800F, 0x01, 0x11, 0x17), (0x800F, 0x02, 0x14, 0x18)];
+
+/// Index, subindex and bytes of an entry.
+type Entry = (u16, u8, Vec<u8>);
 
 /// The plain gauge.
 #[derive(Clone)]
@@ -165,6 +180,29 @@ impl Plain {
         f32::from_bits(little_endian(&self.entries[&(index, sub)]) as u32)
     }
 
+    /// Whether an object is that of a crossed trip point.
+    fn is_crossed(&self, index: u16) -> bool {
+        let sides: Vec<Side> = SIDES
+            .iter()
+            .filter(|side| side.0 == index)
+            .map(|&(index, enable, level, _)| (self.entries[&(index, enable)] != [0], self.real(index, level)))
+            .collect();
+        matches!(sides[..], [high, low] if crossed(high, low))
+    }
+
+    /// Sets entries together, or none of them if an object would be that of a crossed trip point.
+    fn set_all(&mut self, entries: &[Entry]) -> Result<(), u32> {
+        let before = self.entries.clone();
+        for (index, sub, bytes) in entries {
+            self.set(*index, *sub, bytes);
+        }
+        if entries.iter().any(|(index, ..)| self.is_crossed(*index)) {
+            self.entries = before;
+            return Err(0x0609_0036);
+        }
+        Ok(())
+    }
+
     fn find(&self, index: u16, sub: u8) -> Result<Line, u32> {
         if !self.lines.iter().any(|l| l.index == index) {
             return Err(0x0602_0000);
@@ -187,7 +225,7 @@ impl Plain {
     }
 
     /// The card's fields as entries, or the code of its first bad one.
-    fn card_entries(&self, card: &[u8]) -> Result<Vec<(u16, u8, Vec<u8>)>, u32> {
+    fn card_entries(&self, card: &[u8]) -> Result<Vec<Entry>, u32> {
         let bits = all_bits(card);
         if number_of(&bits[..4]) != 1 {
             return Err(0x0609_0030);
@@ -252,15 +290,11 @@ impl Plain {
             return Err(0x0800_0022);
         }
         match line.kind.as_str() {
-            "CARD" => {
-                for (index, sub, bytes) in self.card_entries(bytes)? {
-                    self.set(index, sub, &bytes);
-                }
-            }
+            "CARD" => self.set_all(&self.card_entries(bytes)?)?,
             "COMMAND" => self.command(index, bytes),
             _ => {
                 judge(&line, bytes)?;
-                self.set(index, sub, bytes);
+                self.set_all(&[(index, sub, bytes.to_vec())])?;
                 if (0xF3A1..=0xF3A8).contains(&index) {
                     self.summary();
                 }
@@ -323,15 +357,15 @@ impl Plain {
     }
 
     fn store(&mut self) -> bool {
-        let bad = self.nv().iter().any(|l| judge(l, &self.entries[&(l.index, l.sub)]).is_err());
+        let bad = self.nv().iter().any(|l| judge(l, &self.entries[&(l.index, l.sub)]).is_err() || self.is_crossed(l.index));
         if !bad {
             self.block = Plain::pack(&self.lines, |l| self.entries[&(l.index, l.sub)].clone());
         }
         !bad
     }
 
-    /// The NV values of the block, or nothing if it is faulty.
-    fn unpack(&self) -> Option<Vec<(Line, Vec<u8>)>> {
+    /// The NV values of the block, or nothing if its layout, its rest or one of them is bad.
+    fn unpack(&self) -> Option<Vec<Entry>> {
         let bits = all_bits(&self.block);
         if number_of(&bits[..8]) != 0x11 {
             return None;
@@ -347,7 +381,7 @@ impl Plain {
                 _ => number_of(field).to_le_bytes()[..line.length].to_vec(),
             };
             judge(&line, &bytes).ok()?;
-            found.push((line, bytes));
+            found.push((line.index, line.sub, bytes));
         }
         if bits[at..].contains(&true) {
             return None;
@@ -355,14 +389,9 @@ impl Plain {
         Some(found)
     }
 
+    /// Takes the block, unless it is faulty.
     fn load(&mut self) -> bool {
-        let Some(found) = self.unpack() else {
-            return false;
-        };
-        for (line, bytes) in found {
-            self.set(line.index, line.sub, &bytes);
-        }
-        true
+        self.unpack().is_some_and(|found| self.set_all(&found).is_ok())
     }
 
     pub fn sample(&mut self, pressure: f32, valid: u8, faults: u32, seconds: u32) {

@@ -3,7 +3,7 @@
 use crate::board::{hex, Board, Memory};
 use crate::plain::{self, bits_of, bytes_of, lines, Line, Plain};
 use crate::random::Random;
-use std::collections::VecDeque;
+use std::collections::{BTreeMap, VecDeque};
 use std::fmt;
 use std::sync::OnceLock;
 
@@ -268,6 +268,17 @@ const SPECIAL: [u32; 18] = [
 
 const NICE: [f32; 14] = [0.5, 0.125, 0.25, 0.75, 1.0, 0.0, 2.0, 1500.0, 0.1, 0.3, 1e-7, 3.5e-10, 1499.9999, 16.0];
 
+/// Levels by which a trip point is straight or crossed: some are equal, some stand next to each other.
+const EDGE: [u32; 7] = [
+    0x0000_0000, // zero
+    0x8000_0000, // minus zero
+    0x3F00_0000, // 0.5
+    0x3F80_0000, // 1
+    0x3F80_0001, // above 1
+    0x4120_0000, // 10
+    0x44BB_8000, // 1500
+];
+
 /// The bits of a fault word that a sample keeps.
 const KEPT: u32 = 1 << 0 | 1 << 1 | 1 << 9 | 1 << 10;
 
@@ -339,24 +350,46 @@ impl Maker {
         }
     }
 
+    fn level(&mut self) -> u32 {
+        if self.r.chance(300) {
+            self.r.pick(&EDGE)
+        } else {
+            self.r.pick(&self.reals.clone())
+        }
+    }
+
+    /// Enable and level of a trip point's high and low side: mostly both enabled, mostly the greater level high.
+    fn sides(&mut self) -> [(bool, u32); 2] {
+        let mut levels = [self.level(), self.level(), self.level()].map(f32::from_bits);
+        if self.r.chance(750) {
+            levels.sort_by(|a, b| b.total_cmp(a));
+        }
+        [levels[0], levels[2]].map(|level| (self.r.chance(850), level.to_bits()))
+    }
+
+    /// A trip point as a card has it; a spoilt field may be anything.
+    fn card_point(&mut self, spoilt: [bool; 4]) -> Vec<bool> {
+        let [(high_on, high), (low_on, low)] = self.sides();
+        let mut bits = vec![high_on, low_on];
+        let pool = self.reals;
+        let fields = [high, self.r.pick(&pool), low, self.r.pick(&pool)];
+        for (value, spoilt) in fields.into_iter().zip(spoilt) {
+            bits.extend(bits_of(if spoilt { self.r.pick(&SPECIAL) } else { value } as u64, 32));
+        }
+        bits
+    }
+
     fn card(&mut self) -> Vec<u8> {
         let layout = if self.r.chance(40) { self.r.below(16) as u64 } else { 1 };
         let mut bits = bits_of(layout, 4);
-        let bad = if self.r.chance(250) { self.r.below(8) } else { 99 };
-        let worse = if self.r.chance(300) { self.r.below(8) } else { 99 };
-        for point in 0..2 {
-            bits.push(self.r.chance(700));
-            bits.push(self.r.chance(700));
-            for field in 0..4 {
-                let n = 4 * point + field;
-                let value = if n == bad || (bad != 99 && n == worse) {
-                    self.r.pick(&SPECIAL)
-                } else {
-                    let pool = self.reals;
-                    self.r.pick(&pool)
-                };
-                bits.extend(bits_of(value as u64, 32));
+        let mut spoilt = [[false; 4]; 2];
+        if self.r.chance(250) {
+            for _ in 0..1 + self.r.chance(300) as usize {
+                spoilt[self.r.below(2)][self.r.below(4)] = true;
             }
+        }
+        for point in spoilt {
+            bits.extend(self.card_point(point));
         }
         bytes_of(&bits)
     }
@@ -526,6 +559,24 @@ impl Maker {
         self.write(line, value)
     }
 
+    /// Levels and enables of one trip point, in any order.
+    fn write_point(&mut self) -> Vec<[u8; 8]> {
+        let index = self.r.pick(&[0x800E, 0x800F]);
+        let [(high_on, high), (low_on, low)] = self.sides();
+        let mut entries = vec![
+            (0x01, vec![high_on as u8]),
+            (0x02, vec![low_on as u8]),
+            (0x11, high.to_le_bytes().to_vec()),
+            (0x14, low.to_le_bytes().to_vec()),
+        ];
+        let mut script = Vec::new();
+        while !entries.is_empty() {
+            let (sub, bytes) = entries.swap_remove(self.r.below(entries.len()));
+            script.extend(self.write(Maker::find(index, sub), bytes));
+        }
+        script
+    }
+
     /// A read of the summary byte or of a word beside it.
     fn read_exceptions(&mut self) -> Vec<[u8; 8]> {
         let (index, sub) = self.r.pick(&[(0xF380, 0), (0xF380, 0), (0xF383, 1), (0xF393, 1), (0xF3A3, 1), (0x9005, 2)]);
@@ -545,7 +596,7 @@ impl Maker {
     fn script(&mut self) -> Vec<[u8; 8]> {
         let card = Maker::find(0x2010, 0);
         let label = Maker::find(0x2001, 0);
-        match self.r.below(108) {
+        match self.r.below(116) {
             0..=11 => {
                 let line = self.any_line();
                 self.read(line)
@@ -627,6 +678,7 @@ impl Maker {
                 script
             }
             105 | 106 => self.read_exceptions(),
+            107..=114 => self.write_point(),
             _ => {
                 let mut message = [0; 8];
                 message.copy_from_slice(&self.r.bytes(8));
@@ -760,7 +812,19 @@ impl Maker {
         record
     }
 
-    /// A saved block: zero, good, damaged or anything.
+    /// A value for an NV entry: within its limits, or any. Enables and levels are those of the four sides.
+    fn nv_value(&mut self, line: &Line, any: bool, sides: &[(bool, u32)]) -> Vec<u8> {
+        let side = plain::SIDES.iter().zip(sides).find(|(side, _)| side.0 == line.index && [side.1, side.2].contains(&line.sub));
+        match (line.kind.as_str(), side) {
+            ("REAL", _) if any => self.r.pick(&SPECIAL).to_le_bytes().to_vec(),
+            ("BOOL", Some((_, (enabled, _)))) => vec![*enabled as u8],
+            (_, Some((_, (_, level)))) => level.to_le_bytes().to_vec(),
+            _ if any => self.value(line),
+            _ => (0..20).map(|_| self.value(line)).find(|value| plain::judge(line, value).is_ok()).unwrap_or(line.default()),
+        }
+    }
+
+    /// A saved block: zero, good, crossed in a trip point, damaged or anything.
     fn block(&mut self) -> Vec<u8> {
         let kind = self.r.below(12);
         if kind == 0 {
@@ -770,29 +834,12 @@ impl Maker {
             return self.r.bytes(512);
         }
         let bad = if kind == 2 { self.r.below(table().len()) } else { usize::MAX };
-        let values: Vec<Vec<u8>> = table()
-            .iter()
-            .enumerate()
-            .map(|(n, line)| {
-                if !line.nv {
-                    return Vec::new();
-                }
-                for _ in 0..20 {
-                    let value = if line.kind == "REAL" && n >= bad {
-                        self.r.pick(&SPECIAL).to_le_bytes().to_vec()
-                    } else {
-                        self.value(line)
-                    };
-                    if n >= bad || plain::judge(line, &value).is_ok() {
-                        return value;
-                    }
-                }
-                line.default()
-            })
-            .collect();
-        let place =
-            |line: &Line| values[table().iter().position(|l| l.index == line.index && l.sub == line.sub).unwrap()].clone();
-        let mut block = Plain::pack(table(), place);
+        let sides = [self.sides(), self.sides()].concat();
+        let mut values = BTreeMap::new();
+        for (n, line) in table().iter().enumerate().filter(|(_, line)| line.nv) {
+            values.insert((line.index, line.sub), self.nv_value(line, n >= bad, &sides));
+        }
+        let mut block = Plain::pack(table(), |line| values[&(line.index, line.sub)].clone());
         if kind == 3 {
             let at = match self.r.below(6) {
                 0 => self.r.below(8),
@@ -829,13 +876,63 @@ impl Maker {
             _ => self.writable_line(),
         };
         let script = self.write_some(line);
+        self.say_next(script);
+    }
+
+    /// A line says this instead of what it was about to say.
+    fn say_next(&mut self, script: Vec<[u8; 8]>) {
         let queue = &mut self.queues[self.r.below(2)];
         queue.clear();
         queue.extend(script);
     }
 
+    /// A trip point that is crossed, as only lent bytes can be, and then a write that may be refused for it.
+    fn cross(&mut self) {
+        let index = self.r.pick(&[0x800E, 0x800F]);
+        let (high, low) = match self.r.below(10) {
+            0 => (0x7FC0_0000, self.level()),
+            1 => (self.level(), 0x7FC0_0000),
+            2 => (0, 0x8000_0000),
+            3 => (0x8000_0000, 0),
+            4 => (0x3F80_0000, 0x4120_0000),
+            5..=7 => (0x3F80_0000, 0x3F80_0000),
+            _ => (self.level(), self.level()),
+        };
+        for (sub, level) in [(0x11, high), (0x14, low)] {
+            self.lend_entry(index, sub, level.to_le_bytes().to_vec());
+        }
+        for sub in [0x01, 0x02] {
+            let enable = self.r.pick(&[1, 1, 1, 1, 1, 2, 0xFF]);
+            self.lend_entry(index, sub, vec![enable]);
+        }
+        let script = self.write_beside_crossed(index);
+        self.say_next(script);
+    }
+
+    /// A write while a trip point may be crossed: to its object, to the other, a command or any other.
+    fn write_beside_crossed(&mut self, index: u16) -> Vec<[u8; 8]> {
+        let line = match self.r.below(14) {
+            0..=3 => {
+                let object: Vec<&Line> = table().iter().filter(|line| line.index == index).collect();
+                self.r.pick(&object)
+            }
+            4 => Maker::find(index ^ 1, self.r.pick(&[0x01, 0x02, 0x11, 0x14, 0x17])),
+            5 | 6 => {
+                let enable = Maker::find(index, self.r.pick(&[0x01, 0x02]));
+                return self.write(enable, vec![0]);
+            }
+            7 => Maker::find(index, self.r.pick(&[0x11, 0x14])),
+            8 => Maker::find(0x2010, 0),
+            9 | 10 => Maker::find(0xFBF2, 1),
+            11 => Maker::find(self.r.pick(&[0xFBF0, 0xFBF1, 0xFBF4]), 1),
+            12 => self.mask_line(),
+            _ => self.writable_line(),
+        };
+        self.write_some(line)
+    }
+
     fn lend(&mut self) {
-        let (part, at, bytes) = match self.r.below(12) {
+        let (part, at, bytes) = match self.r.below(15) {
             0..=3 => {
                 let line = if self.r.chance(400) { self.trip_line() } else { self.any_line() };
                 let Some(place) = line.place else {
@@ -863,6 +960,7 @@ impl Maker {
                 (Part::State, [0, 96][line], self.record(line))
             }
             9 | 10 => return self.stale(),
+            11..=13 => return self.cross(),
             _ => {
                 let at = self.r.pick(&[192, 193, 194, 195, 192, 193, 194, 195, 70, 95, 166, 191, 196, 255, 64, 66, 160, 162]);
                 (Part::State, at, vec![self.r.pick(&[0, 1, 2, 0x80, 0xFF])])
@@ -933,8 +1031,10 @@ impl Trace {
     pub fn random(seed: u64, style: Style) -> Trace {
         let mut r = Random::new(seed);
         let mut reals = [0; 4];
+        let near = r.chance(300);
         for real in &mut reals {
             *real = match r.below(8) {
+                _ if near => r.pick(&EDGE),
                 0 => f32::from_bits(0x3F00_0000 + r.below(0x100_0000) as u32).to_bits(),
                 1 => r.pick(&[0x8000_0000, 0x44BB_8000, 0, 1]),
                 _ => r.pick(&NICE).to_bits(),

@@ -4,7 +4,7 @@
 use board_tests::board::code;
 use board_tests::independent::Model;
 use board_tests::model::code::LOCKED;
-use board_tests::model::fault::Sound;
+use board_tests::model::fault::{Broken, Mutant, Mutant::*, Sound};
 use board_tests::model::table::{place, Row, ROWS};
 use board_tests::subject;
 use board_tests::trace::{apply, difference, shrink, Op, Trace};
@@ -17,6 +17,7 @@ const ACTIVE: usize = place(0xF383, 1);
 const MASK: usize = place(0xF3A3, 1);
 const EXCEPTION_RESET_STATUS: usize = place(0xFBF1, 2);
 const LOAD_STATUS: usize = place(0xFBF4, 2);
+const ENABLES: [usize; 4] = [place(0x800E, 1), place(0x800E, 2), place(0x800F, 1), place(0x800F, 2)];
 
 fn row_of(index: u32, sub: u32) -> usize {
     ROWS.iter().position(|row| row.key == 256 * index + sub).unwrap()
@@ -129,8 +130,16 @@ fn traces_meet_everything() {
                         first => meet(format!("answer {first:02X}")),
                     }
                     if let Some(row) = ended_write(message, record) {
+                        let enabled = |side: usize| memory.values[ENABLES[side]] != 0;
                         if row.key == 0x20_1000 && answer[0] != 0x80 {
                             meet("card written".to_string());
+                            if (0..4).all(enabled) {
+                                meet("card written, all sides enabled".to_string());
+                            }
+                        }
+                        if row.point.is_some_and(|n| enabled(2 * n as usize) && enabled(2 * n as usize + 1)) && answer[0] != 0x80
+                        {
+                            meet("trip entry written, both sides enabled".to_string());
                         }
                         for (what, met) in mask_effects(row, answer, &before.values, &memory.values) {
                             if met {
@@ -180,6 +189,7 @@ fn traces_meet_everything() {
         "abort 06090030",
         "abort 06090031",
         "abort 06090032",
+        "abort 06090036",
         "abort 08000022",
         "answer 41",
         "answer 43",
@@ -188,6 +198,7 @@ fn traces_meet_everything() {
         "answer 60",
         "block written",
         "card written",
+        "card written, all sides enabled",
         "device reset with a trip on",
         "load status becomes 0",
         "load status becomes 2",
@@ -211,6 +222,7 @@ fn traces_meet_everything() {
         "summary stale, another mask written",
         "summary stale, load not done",
         "summary stale, mask refused by the lock",
+        "trip entry written, both sides enabled",
         "read part, last 1",
         "write part, last 1",
         "call of odd lengths, number 1",
@@ -221,6 +233,61 @@ fn traces_meet_everything() {
     ];
     for what in wanted {
         assert!(met.get(what).copied().unwrap_or(0) >= 20, "{what} is met too rarely");
+    }
+}
+
+/// What a step meets of crossed trip points, told by a wrong variant of the independent board that shows itself there.
+const MET_BY: [(&str, Mutant); 29] = [
+    ("crossed by equal levels", EqualLevelsPass),
+    ("crossed by zeros of two signs", MinusZeroBelowZero),
+    ("crossed by a level that is not a number", NanLevelPasses),
+    ("crossed by a lent enable byte", EnableMustBeOne),
+    ("straight with no REAL between the levels", NextLevelsCross),
+    ("straight with one side enabled", OneEnableCrosses),
+    ("straight with hystereses that overlap", HysteresesCounted),
+    ("refused by an enable", EnablesUnjudged),
+    ("refused by a level", LevelsUnjudged),
+    ("refused by an entry that decides nothing", FourFieldsJudged),
+    ("refused at the last part of an entry", PartsUnjudged),
+    ("refused under the lock", CrossedBeforeLock),
+    ("refused by an entry outside its limits", CrossedBeforeLimits),
+    ("side of a crossed trip point disabled", DisablingRefused),
+    ("level of a crossed trip point set straight", UncrossingRefused),
+    ("entry of the other trip point written", BothPointsJudged),
+    ("other entry written", OtherEntriesJudged),
+    ("command written", CommandsJudged),
+    ("card crossed in trip point 1 alone", CardFirstUnjudged),
+    ("card crossed in trip point 2 alone", CardSecondUnjudged),
+    ("card crossed and of another layout", CardCrossedBeforeLayout),
+    ("card crossed and outside its limits", CardCrossedBeforeLimits),
+    ("card crossed in trip point 1, outside its limits in trip point 2", CardCrossedByPoint),
+    ("store refused for it", StoreTakesCrossed),
+    ("store refused for trip point 2 alone", StoreSecondUnjudged),
+    ("load refused for it", LoadTakesCrossed),
+    ("power-up or device reset on a crossed block", PowerUpTakesCrossed),
+    ("block crossed in trip point 2 alone", BlockSecondUnjudged),
+    ("sample with a side on", CrossedSidesOff),
+];
+
+/// The traces meet crossed trip points often, in every way in which a board may take them wrongly.
+#[test]
+fn traces_meet_crossed_trip_points() {
+    let mut met = [0; MET_BY.len()];
+    for trace in (1..=2000).map(Trace::numbered) {
+        let mut memory = trace.memory.clone();
+        for op in &trace.ops {
+            let before = memory.clone();
+            let sound = apply(op, &mut Model(Sound), &mut memory);
+            for ((_, mutant), times) in MET_BY.iter().zip(&mut met) {
+                let mut wrong = before.clone();
+                let shown = apply(op, &mut Model(Broken(*mutant)), &mut wrong) != sound || wrong != memory;
+                *times += shown as usize;
+            }
+        }
+    }
+    for ((what, _), times) in MET_BY.iter().zip(met) {
+        println!("{times:7}  crossed: {what}");
+        assert!(times >= 20, "{what} is met too rarely: {times}");
     }
 }
 

@@ -1,9 +1,10 @@
 //! The documents against each other and against the calls: the object table's two printed forms, its rule, the examples
-//! A to K, the coating shop's story, exceptions and masks.
+//! A to K, the coating shop's story, exceptions and masks, crossed trip points.
 
-use board_tests::board::{Board, Desk};
+use board_tests::board::{hex, Board, Desk};
+use board_tests::model::code;
 use board_tests::model::table::{place, Kind, COUNT, FIELDS_END, ROWS};
-use board_tests::plain::{judge, lines, Plain};
+use board_tests::plain::{bits_of, bytes_of, judge, lines, Plain};
 use board_tests::subject;
 
 const ROWS_PRINTED: &str = include_str!("../../crates/rows/stdout");
@@ -76,6 +77,9 @@ fn the_independent_table_is_the_page() {
         assert_eq!((row.readable, row.writable), (line.access != "WO", line.access != "RO"));
         assert_eq!((row.min, row.max), (line.minimum(), line.maximum()));
         assert_eq!(row.mask, line.name.ends_with(" Mask"), "{}", line.name);
+        let point =
+            line.name.split_once(", trip point ").filter(|_| line.access == "RW").map(|(_, n)| n.parse::<u8>().unwrap() - 1);
+        assert_eq!(row.point, point, "{}", line.name);
         if let Some(place) = line.place {
             assert_eq!(row.place as usize, place);
         }
@@ -185,10 +189,11 @@ fn quoted(text: &str) -> Vec<String> {
     text.split('`').skip(1).step_by(2).map(str::to_string).collect()
 }
 
+const PAGE: &str = include_str!("../../docs/ABORT-CODES.md");
+
 /// The codes of docs/ABORT-CODES.md, in the order of its table.
 fn codes_of_the_page() -> Vec<u32> {
-    include_str!("../../docs/ABORT-CODES.md")
-        .lines()
+    PAGE.lines()
         .filter_map(|line| line.strip_prefix("| ")?.split(" |").next())
         .filter(|cell| cell.len() == 8)
         .filter_map(|cell| u32::from_str_radix(cell, 16).ok())
@@ -208,7 +213,7 @@ fn abort_codes_of_the_dialogue() {
         }
     }
     let mut expected = codes_of_the_page();
-    expected.retain(|&code| code != board_tests::model::code::WRITE_ONLY);
+    expected.retain(|&code| code != code::WRITE_ONLY);
     assert_eq!(given, expected);
 }
 
@@ -216,8 +221,6 @@ fn abort_codes_of_the_dialogue() {
 /// independent board is left out.
 #[test]
 fn abort_codes_of_the_page() {
-    use board_tests::model::code;
-    let page = include_str!("../../docs/ABORT-CODES.md");
     let order = codes_of_the_page();
     assert_eq!(
         order,
@@ -234,11 +237,12 @@ fn abort_codes_of_the_page() {
             code::OUT_OF_RANGE,
             code::ABOVE,
             code::BELOW,
+            code::CROSSED,
         ]
     );
     let mut tried = Vec::new();
     let mut heading = 0;
-    for line in page.lines() {
+    for line in PAGE.lines() {
         if let Some(text) = line.strip_prefix("### ") {
             heading = u32::from_str_radix(text, 16).unwrap();
         }
@@ -255,6 +259,7 @@ fn abort_codes_of_the_page() {
         match heading {
             code::TOGGLE => drop(desk.hex(0, "40 10 20 00")),
             code::LOCKED => assert_eq!(desk.write(1, 0x2003, 0, &[1]), Ok(())),
+            code::CROSSED => assert_eq!(desk.write(1, 0x800E, 0x01, &[1]), Ok(())),
             _ => (),
         }
         assert_eq!(desk.hex(0, message), *answer, "example of {heading:08X}");
@@ -300,9 +305,8 @@ fn abort_codes_of_the_code() {
             }
         }
     }
-    let page = include_str!("../../docs/ABORT-CODES.md");
     let listed: std::collections::BTreeSet<String> =
-        page.lines().filter_map(|line| line.strip_prefix("### ")).map(str::to_string).collect();
+        PAGE.lines().filter_map(|line| line.strip_prefix("### ")).map(str::to_string).collect();
     assert_eq!(listed, codes);
 }
 
@@ -344,7 +348,7 @@ fn constants_of_the_header() {
         .collect();
     let expected = [
         ("VERSION_MAJOR", 1),
-        ("VERSION_MINOR", 0),
+        ("VERSION_MINOR", 1),
         ("VALUES_SIZE", 1024),
         ("BLOCK_SIZE", 512),
         ("STATE_SIZE", 256),
@@ -363,15 +367,19 @@ fn constants_of_the_header() {
     assert_eq!(constants, expected);
 }
 
-fn card_of(levels: [f32; 8]) -> Vec<u8> {
-    let mut bits = board_tests::plain::bits_of(1, 4);
-    for point in levels.chunks(4) {
-        bits.extend([true, true]);
-        for level in point {
-            bits.extend(board_tests::plain::bits_of(level.to_bits() as u64, 32));
-        }
+/// A card of a layout, with the four sides' enables and, in the card's order, levels and hystereses.
+fn card_with(layout: u64, enables: [bool; 4], reals: [f32; 8]) -> Vec<u8> {
+    let mut bits = bits_of(layout, 4);
+    for (enables, reals) in enables.chunks(2).zip(reals.chunks(4)) {
+        bits.extend(enables);
+        bits.extend(reals.iter().flat_map(|real| bits_of(real.to_bits() as u64, 32)));
     }
-    board_tests::plain::bytes_of(&bits)
+    bytes_of(&bits)
+}
+
+/// A card with all sides enabled.
+fn card_of(reals: [f32; 8]) -> Vec<u8> {
+    card_with(1, [true; 4], reals)
 }
 
 /// A load on line 1 between the parts of a card read on line 0: the read is the old pair, whole; the next is the new pair, whole;
@@ -600,14 +608,13 @@ fn a_saved_mask() {
     }
 }
 
-/// docs/ABORT-CODES.md: the dialogue below the masks. `sample` and a fault word stand for a valid sample of 0.5.
-#[test]
-fn a_mask_of_the_page() {
-    let page = include_str!("../../docs/ABORT-CODES.md");
-    let section = page.split("\n## ").find(|section| section.starts_with("Exceptions\n")).unwrap();
+/// Plays the text lines of docs/ABORT-CODES.md between a heading and the next: message, answer, remark. `sample` and a fault word
+/// stand for a valid sample of 0.5. Gives the numbers of messages and samples.
+fn play(heading: &str) -> (u32, u32) {
+    let (_, section) = PAGE.split_once(&format!("\n{heading}\n")).unwrap();
     let mut desk = Desk::new(subject());
     let (mut messages, mut samples) = (0, 0);
-    for text in section.lines().filter_map(|text| text.strip_prefix("    ")) {
+    for text in section.lines().take_while(|text| !text.starts_with('#')).filter_map(|text| text.strip_prefix("    ")) {
         match text.split_whitespace().collect::<Vec<_>>()[..] {
             ["sample", faults, ..] => {
                 samples += 1;
@@ -622,5 +629,384 @@ fn a_mask_of_the_page() {
             _ => panic!("'{text}' is no line of a dialogue"),
         }
     }
+    (messages, samples)
+}
+
+/// The dialogue below the masks.
+#[test]
+fn a_mask_of_the_page() {
+    let (messages, samples) = play("## Exceptions");
     assert!(messages >= 8 && samples >= 3, "{messages} messages and {samples} samples");
+}
+
+/// The dialogue of the code for a crossed trip point.
+#[test]
+fn a_crossed_trip_point_of_the_page() {
+    let (messages, _) = play("### 06090036");
+    assert!(messages >= 5, "{messages} messages");
+}
+
+const POINTS: [u16; 2] = [0x800E, 0x800F];
+const HIGH_ENABLE: u8 = 0x01;
+const LOW_ENABLE: u8 = 0x02;
+const HIGH_LEVEL: u8 = 0x11;
+const LOW_LEVEL: u8 = 0x14;
+
+/// High levels, low levels, and whether they are crossed where both sides are enabled.
+const LEVELS: [(f32, f32, bool); 18] = [
+    (10.0, 1.0, false),
+    (1.0, 10.0, true),
+    (0.5, 0.5, true),
+    (1500.0, 1500.0, true),
+    (0.0, 0.0, true),
+    (0.0, -0.0, true),
+    (-0.0, 0.0, true),
+    (-0.0, -0.0, true),
+    (0.5, -0.0, false),
+    (-0.0, 0.5, true),
+    (f32::from_bits(0x3F80_0001), 1.0, false),
+    (1.0, f32::from_bits(0x3F80_0001), true),
+    (f32::from_bits(1), 0.0, false),
+    (f32::from_bits(1), -0.0, false),
+    (0.0, f32::from_bits(1), true),
+    (f32::NAN, 0.5, true),
+    (0.5, f32::NAN, true),
+    (f32::NAN, f32::NAN, true),
+];
+
+/// Those of them that can be written.
+fn levels_written() -> impl Iterator<Item = (f32, f32, bool)> {
+    LEVELS.into_iter().filter(|(high, low, _)| !high.is_nan() && !low.is_nan())
+}
+
+/// The same for each trip point.
+fn points_written() -> impl Iterator<Item = (u16, f32, f32, bool)> {
+    levels_written().flat_map(|(high, low, crossed)| POINTS.map(|index| (index, high, low, crossed)))
+}
+
+/// Puts bytes into the values, as firmware can.
+fn lend(values: &mut [u8], index: u16, sub: u8, bytes: &[u8]) {
+    values[place(index, sub)..][..bytes.len()].copy_from_slice(bytes);
+}
+
+/// Lends a trip point: enables and levels of its high and low side.
+fn lend_point(values: &mut [u8], index: u16, enables: [u8; 2], levels: [f32; 2]) {
+    for (sub, enable) in [HIGH_ENABLE, LOW_ENABLE].into_iter().zip(enables) {
+        lend(values, index, sub, &[enable]);
+    }
+    for (sub, level) in [HIGH_LEVEL, LOW_LEVEL].into_iter().zip(levels) {
+        lend(values, index, sub, &level.to_le_bytes());
+    }
+}
+
+/// An expedited write and its whole outcome: a yes and the bytes in the values, or a code and nothing changed.
+fn expect_write<B: Board>(desk: &mut Desk<B>, index: u16, sub: u8, bytes: &[u8], outcome: Result<(), u32>) {
+    let ([low, high], mut expected) = (index.to_le_bytes(), desk.memory.clone());
+    let (mut message, mut answer) = ([0x23, low, high, sub, 0, 0, 0, 0], [0x60, low, high, sub, 0, 0, 0, 0]);
+    message[0] |= (4 - bytes.len() as u8) << 2;
+    message[4..4 + bytes.len()].copy_from_slice(bytes);
+    match outcome {
+        Ok(()) => lend(&mut expected.values, index, sub, bytes),
+        Err(code) => {
+            answer[0] = 0x80;
+            answer[4..].copy_from_slice(&code.to_le_bytes());
+        }
+    }
+    assert_eq!(desk.say(1, message), Some(answer), "{index:04X}:{sub:02X} {bytes:02X?}");
+    assert!(desk.memory == expected, "memory after {index:04X}:{sub:02X} {bytes:02X?}");
+}
+
+/// What a write is if it leaves its trip point crossed or not.
+fn judged(crossed: bool) -> Result<(), u32> {
+    if crossed {
+        Err(code::CROSSED)
+    } else {
+        Ok(())
+    }
+}
+
+/// From the defaults: one side can be enabled, the other not until the low level is below the high level.
+#[test]
+fn levels_of_the_defaults() {
+    for index in POINTS {
+        for (first, second) in [(HIGH_ENABLE, LOW_ENABLE), (LOW_ENABLE, HIGH_ENABLE)] {
+            let mut desk = Desk::new(subject());
+            expect_write(&mut desk, index, first, &[1], Ok(()));
+            expect_write(&mut desk, index, second, &[1], Err(code::CROSSED));
+            expect_write(&mut desk, index, LOW_LEVEL, &0.5f32.to_le_bytes(), Ok(()));
+            expect_write(&mut desk, index, second, &[1], Err(code::CROSSED));
+            expect_write(&mut desk, index, HIGH_LEVEL, &1f32.to_le_bytes(), Ok(()));
+            expect_write(&mut desk, index, second, &[1], Ok(()));
+            expect_write(&mut desk, index, LOW_LEVEL, &1f32.to_le_bytes(), Err(code::CROSSED));
+            expect_write(&mut desk, index, HIGH_LEVEL, &0.5f32.to_le_bytes(), Err(code::CROSSED));
+            expect_write(&mut desk, index, first, &[0], Ok(()));
+            expect_write(&mut desk, index, LOW_LEVEL, &10f32.to_le_bytes(), Ok(()));
+            expect_write(&mut desk, index, first, &[1], Err(code::CROSSED));
+        }
+    }
+}
+
+/// The customer's relay, low 10 and high 1, is refused; with low 1 and high 10 it opens between them.
+#[test]
+fn the_customers_relay() {
+    let mut desk = Desk::new(subject());
+    for (high, low, crossed) in [(1f32, 10f32, true), (10.0, 1.0, false)] {
+        expect_write(&mut desk, 0x800E, HIGH_LEVEL, &high.to_le_bytes(), Ok(()));
+        expect_write(&mut desk, 0x800E, LOW_LEVEL, &low.to_le_bytes(), Ok(()));
+        expect_write(&mut desk, 0x800E, HIGH_ENABLE, &[1], Ok(()));
+        expect_write(&mut desk, 0x800E, LOW_ENABLE, &[1], judged(crossed));
+    }
+    for (pressure, sides) in [(0.5, 2), (5.0, 0), (20.0, 1), (5.0, 0)] {
+        desk.sample(pressure, 1, 0, 1);
+        assert_eq!(number(&mut desk, 0xF641, 1), sides, "at {pressure}");
+    }
+}
+
+/// Levels are compared as REALs, equal ones and those that are no numbers are crossed: whichever of the entries comes last, on both
+/// trip points, and by an entry that decides nothing. Hystereses play no part.
+#[test]
+fn crossed_levels() {
+    for index in POINTS {
+        for (high, low, crossed) in LEVELS {
+            let last = [
+                (HIGH_ENABLE, vec![1]),
+                (LOW_ENABLE, vec![1]),
+                (HIGH_LEVEL, high.to_le_bytes().to_vec()),
+                (LOW_LEVEL, low.to_le_bytes().to_vec()),
+                (0x17, 1500f32.to_le_bytes().to_vec()),
+                (0x1A, vec![1, 2, 3, 4]),
+            ];
+            for (sub, bytes) in last {
+                let mut desk = Desk::new(subject());
+                lend_point(&mut desk.memory.values, index, [1, 1], [high, low]);
+                lend(&mut desk.memory.values, index, 0x18, &1500f32.to_le_bytes());
+                lend(&mut desk.memory.values, index, sub, &vec![0; bytes.len()]);
+                let is_nan = bytes.len() == 4 && f32::from_le_bytes(*bytes.first_chunk().unwrap()).is_nan();
+                expect_write(&mut desk, index, sub, &bytes, if is_nan { Err(code::OUT_OF_RANGE) } else { judged(crossed) });
+            }
+        }
+    }
+}
+
+/// Lent enable bytes: each that is not 0 enables, and with one that is 0 nothing is crossed.
+#[test]
+fn lent_enables() {
+    for index in POINTS {
+        for high in [0, 1, 2, 0x80, 0xFF] {
+            for low in [0, 1, 2, 0x80, 0xFF] {
+                let mut desk = Desk::new(subject());
+                lend_point(&mut desk.memory.values, index, [high, low], [1.0, 10.0]);
+                expect_write(&mut desk, index, 0x17, &[0; 4], judged(high != 0 && low != 0));
+            }
+        }
+    }
+}
+
+/// Every entry of a crossed trip point's object is refused, but for those that disable a side or set its levels straight. No entry
+/// of the other's is.
+#[test]
+fn each_entry_of_a_crossed_trip_point() {
+    for index in POINTS {
+        for line in lines().iter().filter(|line| POINTS.contains(&line.index)) {
+            let mut desk = Desk::new(subject());
+            lend_point(&mut desk.memory.values, index, [1, 1], [0.5, 10.0]);
+            let enable = [HIGH_ENABLE, LOW_ENABLE].contains(&line.sub);
+            let bytes = if enable { vec![1] } else { line.default() };
+            let straight = line.index == index && line.sub == LOW_LEVEL;
+            expect_write(&mut desk, line.index, line.sub, &bytes, judged(line.index == index && !straight));
+            if enable {
+                expect_write(&mut desk, line.index, line.sub, &[0], Ok(()));
+            }
+        }
+        let mut desk = Desk::new(subject());
+        lend_point(&mut desk.memory.values, index, [1, 1], [0.5, 10.0]);
+        expect_write(&mut desk, index, HIGH_LEVEL, &10f32.to_le_bytes(), Err(code::CROSSED));
+        expect_write(&mut desk, index, HIGH_LEVEL, &11f32.to_le_bytes(), Ok(()));
+    }
+}
+
+/// A card in parts, and the answer to its last part.
+fn send_card<B: Board>(desk: &mut Desk<B>, card: &[u8]) -> String {
+    assert_eq!(desk.hex(1, "21 10 20 00 21"), "60 10 20 00 00 00 00 00");
+    let mut answer = String::new();
+    for (n, bytes) in card.chunks(7).enumerate() {
+        let mut part = [0; 8];
+        part[0] = (n as u8 % 2) << 4 | if n == 4 { 5 } else { 0 };
+        part[1..1 + bytes.len()].copy_from_slice(bytes);
+        answer = hex(&desk.say(1, part).unwrap());
+    }
+    answer
+}
+
+const CARD_TAKEN: &str = "20 00 00 00 00 00 00 00";
+const CARD_CROSSED: &str = "80 10 20 00 36 00 09 06";
+
+/// A card is judged by its own fields: trip point 1, 2 or both may be crossed in it. Refused it changes nothing.
+#[test]
+fn crossed_cards() {
+    for (high, low, crossed) in levels_written() {
+        let (pair, straight) = ([high, 1.0, low, 1500.0], [2.0, 0.5, 0.25, 0.125]);
+        for (first, second) in [(pair, straight), (straight, pair), (pair, pair)] {
+            let reals: [f32; 8] = [first, second].concat().try_into().unwrap();
+            let mut desk = Desk::new(subject());
+            // what stood in the values does not count
+            lend_point(&mut desk.memory.values, 0x800E, [1, 1], [1.0, 10.0]);
+            let before = desk.memory.clone();
+            let card = card_of(reals);
+            assert_eq!(send_card(&mut desk, &card), if crossed { CARD_CROSSED } else { CARD_TAKEN }, "{reals:?}");
+            if crossed {
+                assert!(desk.memory == before, "{reals:?}");
+            } else {
+                assert_eq!(desk.read(0, 0x2010, 0), Ok(card));
+            }
+        }
+        // with one side of each trip point enabled nothing is crossed
+        let reals: [f32; 8] = [pair, pair].concat().try_into().unwrap();
+        let mut desk = Desk::new(subject());
+        assert_eq!(send_card(&mut desk, &card_with(1, [true, false, false, true], reals)), CARD_TAKEN);
+    }
+}
+
+/// Length, lock and limits are told before a crossed trip point: all of them also of a card, those of trip point 2 too.
+#[test]
+fn crossed_is_told_last() {
+    let mut desk = Desk::new(subject());
+    lend_point(&mut desk.memory.values, 0x800E, [1, 1], [1.0, 10.0]);
+    expect_write(&mut desk, 0x800E, 0x17, &[0; 3], Err(code::TOO_SHORT));
+    expect_write(&mut desk, 0x800E, LOW_ENABLE, &[1, 0], Err(code::TOO_LONG));
+    expect_write(&mut desk, 0x800E, HIGH_LEVEL, &f32::NAN.to_le_bytes(), Err(code::OUT_OF_RANGE));
+    expect_write(&mut desk, 0x800E, LOW_LEVEL, &1501f32.to_le_bytes(), Err(code::ABOVE));
+    expect_write(&mut desk, 0x800E, HIGH_LEVEL, &(-1f32).to_le_bytes(), Err(code::BELOW));
+    expect_write(&mut desk, 0x800E, LOW_ENABLE, &[2], Err(code::ABOVE));
+    expect_write(&mut desk, 0x800E, 0x12, &[0; 4], Err(code::BELOW));
+    let crossed = [1.0, 0.5, 10.0, 0.5, 1.0, 0.5, 10.0, 0.5];
+    let before = desk.memory.clone();
+    assert_eq!(send_card(&mut desk, &card_with(2, [true; 4], crossed)), "80 10 20 00 30 00 09 06");
+    for field in 0..8 {
+        for (bad, answer) in [(1501.0, "80 10 20 00 31 00 09 06"), (-1.0, "80 10 20 00 32 00 09 06")] {
+            let mut reals = crossed;
+            reals[field] = bad;
+            assert_eq!(send_card(&mut desk, &card_of(reals)), answer, "field {field}");
+        }
+    }
+    assert!(desk.memory == before);
+    assert_eq!(send_card(&mut desk, &card_of(crossed)), CARD_CROSSED);
+    assert!(desk.memory == before);
+    lend(&mut desk.memory.values, 0x2003, 0, &[1]);
+    expect_write(&mut desk, 0x800E, 0x17, &[0; 4], Err(code::LOCKED));
+    assert_eq!(send_card(&mut desk, &card_of(crossed)), "80 10 20 00 22 00 00 08");
+}
+
+/// An entry that is written in parts is judged at its last part, by the values of that moment.
+#[test]
+fn crossed_in_parts() {
+    let opening = ("21 0E 80 02 01", "60 0E 80 02");
+    let mut desk = Desk::new(subject());
+    exchange(&mut desk, 0, &[("2F 0E 80 01 01", "60 0E 80 01")]);
+    let before = desk.memory.clone();
+    exchange(&mut desk, 0, &[opening, ("0D 01", "80 0E 80 02 36 00 09 06")]);
+    assert!(desk.memory == before);
+    exchange(&mut desk, 0, &[opening]);
+    exchange(&mut desk, 1, &[("23 0E 80 11 00 00 80 3F", "60 0E 80 11")]);
+    exchange(&mut desk, 0, &[("0D 01", "20"), ("40 0E 80 02", "4F 0E 80 02 01")]);
+    exchange(&mut desk, 0, &[("2F 0E 80 02 00", "60 0E 80 02"), opening]);
+    exchange(&mut desk, 1, &[("23 0E 80 14 00 00 80 3F", "60 0E 80 14")]);
+    exchange(&mut desk, 0, &[("0D 01", "80 0E 80 02 36 00 09 06"), ("40 0E 80 02", "4F 0E 80 02 00")]);
+}
+
+/// With both trip points crossed every other entry can be written, and each command is done but a store.
+#[test]
+fn what_crossed_trip_points_leave_alone() {
+    let mut desk = Desk::new(subject());
+    assert_eq!(desk.write(0, 0xFBF2, 1, b"save"), Ok(()));
+    for index in POINTS {
+        lend_point(&mut desk.memory.values, index, [1, 1], [1.0, 10.0]);
+    }
+    let others = lines().into_iter().filter(|line| line.access == "RW" && line.place.is_some() && !POINTS.contains(&line.index));
+    for line in others {
+        assert_eq!(desk.write(1, line.index, line.sub, &line.default()), Ok(()), "{line:?}");
+    }
+    lend(&mut desk.memory.values, 0xFBF1, 2, &[9]);
+    assert_eq!(desk.write(1, 0xFBF1, 1, b"teser"), Ok(()));
+    assert_eq!(number(&mut desk, 0xFBF1, 2), 0);
+    assert_eq!(desk.write(1, 0xFBF4, 1, b"LOAD"), Ok(()));
+    assert_eq!(number(&mut desk, 0xFBF4, 2), 2);
+    assert_eq!(number(&mut desk, 0x800E, LOW_ENABLE), 1);
+    assert_eq!(desk.write(1, 0xFBF4, 1, b"load"), Ok(()));
+    assert_eq!((number(&mut desk, 0xFBF4, 2), number(&mut desk, 0x800E, LOW_ENABLE)), (0, 0));
+    lend_point(&mut desk.memory.values, 0x800F, [1, 1], [1.0, 10.0]);
+    assert_eq!(desk.write(1, 0xFBF0, 1, b"teser\0"), Ok(()));
+    assert_eq!(number(&mut desk, 0x800F, LOW_ENABLE), 0);
+}
+
+/// The saved block of the defaults, but for a label and a trip point with both sides enabled.
+fn block_with(index: u16, high: f32, low: f32) -> Vec<u8> {
+    Plain::pack(&lines(), |line| match (line.index, line.sub) {
+        (0x2001, _) => vec![0x41; 32],
+        (i, HIGH_ENABLE | LOW_ENABLE) if i == index => vec![1],
+        (i, HIGH_LEVEL) if i == index => high.to_le_bytes().to_vec(),
+        (i, LOW_LEVEL) if i == index => low.to_le_bytes().to_vec(),
+        _ => line.default(),
+    })
+}
+
+/// A load of a block with a crossed trip point sets its status to 2 and changes nothing else.
+#[test]
+fn crossed_blocks_are_not_loaded() {
+    for (index, high, low, crossed) in points_written() {
+        let mut desk = Desk::new(subject());
+        desk.memory.block = block_with(index, high, low);
+        lend(&mut desk.memory.values, 0xFBF4, 2, &[9, 9]);
+        let mut expected = desk.memory.clone();
+        assert_eq!(desk.hex(0, "23 F4 FB 01 6C 6F 61 64"), "60 F4 FB 01 00 00 00 00");
+        if crossed {
+            lend(&mut expected.values, 0xFBF4, 2, &[2, 2]);
+        } else {
+            lend(&mut expected.values, 0xFBF4, 2, &[0, 0]);
+            lend(&mut expected.values, 0x2001, 0, &[0x41; 32]);
+            lend_point(&mut expected.values, index, [1, 1], [high, low]);
+        }
+        assert!(desk.memory == expected, "{index:04X} {high} {low}");
+    }
+}
+
+/// Power-up and device reset on a block with a crossed trip point take the defaults.
+#[test]
+fn crossed_blocks_at_power_up() {
+    let fresh = Desk::new(subject()).memory.values;
+    for (index, high, low, crossed) in points_written() {
+        let mut desk = Desk::new(subject());
+        desk.memory.block = block_with(index, high, low);
+        assert_eq!(desk.power_up(), 0);
+        assert_eq!(desk.memory.values == fresh, crossed, "{index:04X} {high} {low}");
+        let label = if crossed { vec![0; 32] } else { vec![0x41; 32] };
+        assert_eq!(desk.read(0, 0x2001, 0), Ok(label), "{index:04X} {high} {low}");
+        let after = desk.memory.values.clone();
+        desk.memory.values.fill(0x66);
+        assert_eq!(desk.write(1, 0xFBF0, 1, b"teser\0"), Ok(()));
+        assert!(desk.memory.values == after, "{index:04X} {high} {low}");
+    }
+}
+
+/// A store while a trip point is crossed sets its status to 2 and leaves the block.
+#[test]
+fn crossed_values_are_not_stored() {
+    for (index, high, low, crossed) in points_written() {
+        let mut desk = Desk::new(subject());
+        desk.memory.block = block_with(index, 2.0, 1.0);
+        lend(&mut desk.memory.values, 0x2001, 0, &[0x41; 32]);
+        lend_point(&mut desk.memory.values, index, [1, 1], [high, low]);
+        let mut expected = desk.memory.clone();
+        assert_eq!(desk.hex(0, "23 F2 FB 01 73 61 76 65"), "60 F2 FB 01 00 00 00 00");
+        if crossed {
+            lend(&mut expected.values, 0xFBF2, 2, &[2, 2]);
+        } else {
+            expected.block = block_with(index, high, low);
+        }
+        assert!(desk.memory == expected, "{index:04X} {high} {low}");
+        // with a side disabled it is stored
+        assert_eq!(desk.write(0, index, LOW_ENABLE, &[0]), Ok(()));
+        assert_eq!(desk.write(0, 0xFBF2, 1, b"save"), Ok(()));
+        assert_eq!(number(&mut desk, 0xFBF2, 2), 0);
+    }
 }

@@ -6,13 +6,13 @@ use board_tests::subject;
 
 const ROOM: u8 = 0xC3;
 
-/// Memory with something everywhere, and line 0 in the middle of a card read.
+/// Memory with something everywhere, a high side that is enabled, and line 0 in the middle of a card read.
 fn busy() -> Memory {
     let mut r = Random::new(5);
     let mut memory = Memory { values: r.bytes(1024), block: r.bytes(512), state: r.bytes(256) };
     subject().power_up(&mut memory.values, &memory.block, &mut memory.state);
     let mut answer = [0; 8];
-    for message in [[0x40, 0x10, 0x20, 0, 0, 0, 0, 0], [0x60, 0, 0, 0, 0, 0, 0, 0]] {
+    for message in [[0x2F, 0x0E, 0x80, 0x01, 1, 0, 0, 0], [0x40, 0x10, 0x20, 0, 0, 0, 0, 0], [0x60, 0, 0, 0, 0, 0, 0, 0]] {
         let m = &mut memory;
         assert_eq!(subject().message(0, &message, &mut m.values, &mut m.block, &mut m.state, &mut answer), 0);
     }
@@ -155,6 +155,7 @@ fn an_abort_answer_leaves_values_and_block() {
         [0x2F, 0x03, 0x20, 0, 2, 0, 0, 0],          // above
         [0x2F, 0x05, 0x80, 0x11, 0, 0, 0, 0],       // below
         [0x23, 0x0E, 0x80, 0x11, 0, 0, 0xC0, 0x7F], // not a number
+        [0x2F, 0x0E, 0x80, 0x02, 1, 0, 0, 0],       // crossed
     ];
     for message in messages {
         let mut memory = busy();

@@ -5,6 +5,7 @@ use Prim.Native.Nat.{ℕ}
 use lib.Ieee.{lt, isNan, ofBits, ofFields}
 use lib.ListN.{replicate}
 use Rattle.bits.specs.Bits.{msb, bits, num-from, num, packed}
+use Rattle.crossed.specs.Crossed.{crossed, crossed-at, straight}
 use Rattle.entry.specs.Entry.{with-entry, default-of, defaulted, defaults}
 use Rattle.limits.specs.Limits.{verdict-code, first-fault, whole-verdict, real-verdict, by-kind, kind-verdict, number-verdict}
 use Rattle.table.specs.Rows.{rows}
@@ -30,5 +31,5 @@ default-bytes =
     [])
 
 pub default-block : stored-block (defaults rows (replicate 1024 0)) [] ≡ default-bytes ++ replicate 364 0
-unfolding default-bytes rows msb bits num-from num packed with-entry default-of defaulted defaults number-verdict verdict-code first-fault whole-verdict real-verdict by-kind kind-verdict pick held little fromLittle number splice width entry-bits within nv-rows widths saved values-good block-of storable stored-block lt isNan ofBits ofFields
+unfolding default-bytes rows msb bits num-from num packed with-entry default-of defaulted defaults number-verdict verdict-code first-fault whole-verdict real-verdict by-kind kind-verdict pick held little fromLittle number splice width entry-bits within nv-rows widths saved values-good block-of crossed crossed-at straight storable stored-block lt isNan ofBits ofFields
 default-block = refl

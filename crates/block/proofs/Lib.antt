@@ -7,6 +7,7 @@ pub mod Turns
 pub mod Zeros
 pub mod Whole
 pub mod RoundTrips
+pub mod Straight
 pub mod Tables
 pub mod Theorems
 pub mod Examples

@@ -14,11 +14,13 @@ use Rattle.bits.proofs.Numbers.{length-msb, num-msb, msb-num, small-take, small
 use Rattle.bits.proofs.Parts.{field-mid}
 use Rattle.bits.specs.Bits.{msb, num, field, Small}
 use Rattle.block.proofs.Entries.{length-entry, length-bytes, entry-back, back-entry, number-back, bits-number, number-or-string, within-string}
+use Rattle.block.proofs.Judged.{cut-is}
 use Rattle.block.proofs.Kept.{Kept}
 use Rattle.block.proofs.Walking.{fits, Keeps, part-long, length-saved}
 use Rattle.block.proofs.Zeros.{zeros, zeros-are}
+use Rattle.block.specs.Asked.{saved-numbers}
 use Rattle.block.specs.Block.{LAYOUT, row-width, part, entry-bits, entry-bytes, within, widths, saved, load-rows, values-good, rows-good, all-zero, block-of, headed, good}
-use Rattle.table.specs.Row.{Row, no-row}
+use Rattle.table.specs.Row.{Row, no-row, REAL}
 use Rattle.wire.proofs.LittleLaws.{Bytes, bytes-part}
 use Rattle.wire.proofs.SpliceLaws.{length-splice, is-apart, part-same, part-apart, splice-own}
 use Rattle.wire.specs.Little.{fromLittle, number}
@@ -72,6 +74,33 @@ length-load bs at [] values k n = n
 length-load bs at (r ∷ rs) values k n =
     length-load bs (at + row-width r) rs (splice values (r .place) (entry-bytes (r .kind) (r .len) (drop at bs))) (k .1) (length-one values r (drop at bs) (k .0) n)
 
+-- ---- the values have the entries of the bits
+
+unfoldable pub Shows : List ℕ → ℕ → List Row → List ℕ → Type 0
+Shows bs at [] values = Unit
+Shows bs at (r ∷ rs) values = (part values r ≡ entry-bytes (r .kind) (r .len) (drop at bs)) × Shows bs (at + row-width r) rs values
+
+-- after a load, whatever the values were
+pub load-shows : (bs : List ℕ) (rs : List Row) (from at : ℕ) (values : List ℕ) → Keeps rs → Rising from rs → length values ≡ 1024 → Shows bs at rs (load-rows bs at rs values)
+unfolding load-rows Keeps Rising Shows
+load-shows bs [] from at values k t n = tt
+load-shows bs (r ∷ rs) from at values k t n =
+    let own : List ℕ = entry-bytes (r .kind) (r .len) (drop at bs) in
+    let mid : List ℕ = splice values (r .place) own in
+    let lm : length mid ≡ 1024 = length-one values r (drop at bs) (k .0) n in (
+      load-beside bs (at + row-width r) rs mid (r .place) (r .len) (k .1) (rising-clear rs (r .place) (r .len) (t .1)) lm
+          ∙ part-same values (r .place) own (room-of values r (k .0) n) (r .len) (length-bytes (r .kind) (r .len) (drop at bs)),
+      load-shows bs rs (r .place + r .len) (at + row-width r) mid (k .1) (t .1) lm,
+    )
+
+-- so entry j is the same after two loads
+pub shown-entry : (bs : List ℕ) (rs : List Row) (at : ℕ) (x y : List ℕ) → Shows bs at rs x → Shows bs at rs y → (j : ℕ) → j < length rs
+    → part x (getD rs j no-row) ≡ part y (getD rs j no-row)
+unfolding Shows
+shown-entry bs [] at x y s t j h = absurd (not-suc-le-zero h)
+shown-entry bs (r ∷ rs) at x y s t zero h = s .0 ∙ sym (t .0)
+shown-entry bs (r ∷ rs) at x y s t (suc j) h = shown-entry bs rs (at + row-width r) x y (s .1) (t .1) j (le-of-suc-le-suc h)
+
 -- ---- the block begins with 8 bits
 
 head : ℕ → List ℕ
@@ -85,51 +114,14 @@ block-parts : (model : ℕ) (values : List ℕ) (rs : List Row) → block-of mod
 unfolding block-of head
 block-parts model values rs = sym (append-assoc (msb 4 LAYOUT) (msb 4 model) (saved values rs ++ replicate (4096 - (8 + widths rs)) 0))
 
--- ---- loaded after stored: into any values, every entry comes back
-
--- the values with the entries of others
-unfoldable pub copy-rows : List ℕ → List Row → List ℕ → List ℕ
-copy-rows others [] values = values
-copy-rows others (r ∷ rs) values = copy-rows others rs (splice values (r .place) (part others r))
-
-pub copy-beside : (others : List ℕ) (rs : List Row) (values : List ℕ) (q m : ℕ) → Keeps rs → Clear rs q m → length others ≡ 1024 → length values ≡ 1024
-    → take m (drop q (copy-rows others rs values)) ≡ take m (drop q values)
-unfolding copy-rows Keeps Clear
-copy-beside others [] values q m k t o n = refl
-copy-beside others (r ∷ rs) values q m k t o n =
-    let own : List ℕ = part others r in
-    let lo : length own ≡ r .len = part-long others r (k .0) o in
-    copy-beside others rs (splice values (r .place) own) q m (k .1) (t .1) o (length-splice values (r .place) own (omega (arith, k .0 .sized .inside)) ∙ n)
-    ∙ part-apart values (r .place) own (room-of values r (k .0) n) q m (rw lo (t .0))
-
--- each entry is that of the others
-pub copied-entry : (others : List ℕ) (rs : List Row) (from : ℕ) (values : List ℕ) → Keeps rs → Rising from rs → length others ≡ 1024 → length values ≡ 1024
-    → (j : ℕ) → j < length rs → part (copy-rows others rs values) (getD rs j no-row) ≡ part others (getD rs j no-row)
-unfolding copy-rows Keeps Rising
-copied-entry others [] from values k t o n j h = absurd (not-suc-le-zero h)
-copied-entry others (r ∷ rs) from values k t o n zero h =
-    let own : List ℕ = part others r in
-    let lo : length own ≡ r .len = part-long others r (k .0) o in
-    copy-beside others rs (splice values (r .place) own) (r .place) (r .len) (k .1) (rising-clear rs (r .place) (r .len) (t .1)) o (length-splice values (r .place) own (omega (arith, k .0 .sized .inside)) ∙ n)
-    ∙ part-same values (r .place) own (room-of values r (k .0) n) (r .len) lo
-copied-entry others (r ∷ rs) from values k t o n (suc j) h =
-    let own : List ℕ = part others r in
-    let lo : length own ≡ r .len = part-long others r (k .0) o in
-    copied-entry others rs (r .place + r .len) (splice values (r .place) own) (k .1) (t .1) o (length-splice values (r .place) own (omega (arith, k .0 .sized .inside)) ∙ n) j (le-of-suc-le-suc h)
-
--- and one's own are left
-pub copy-own : (values : List ℕ) (rs : List Row) → Keeps rs → length values ≡ 1024 → copy-rows values rs values ≡ values
-unfolding copy-rows Keeps
-copy-own values [] k n = refl
-copy-own values (r ∷ rs) k n =
-    ap (copy-rows values rs) (splice-own values (r .place) (r .len) (omega (arith, k .0 .sized .inside))) ∙ copy-own values rs (k .1) n
+-- ---- loaded after stored
 
 module _ (others : List ℕ) (hb : Bytes others) (hn : length others ≡ 1024) where
-  rows-back : (rs : List Row) → Keeps rs → values-good others rs ≡ true → (front rest : List ℕ) (at : ℕ) → length front ≡ at → (values : List ℕ)
-      → load-rows (front ++ (saved others rs ++ rest)) at rs values ≡ copy-rows others rs values
-  unfolding load-rows copy-rows saved values-good Keeps
-  rows-back [] k g front rest at e values = refl
-  rows-back (r ∷ rs) k g front rest at e values =
+  rows-own : (rs : List Row) → Keeps rs → values-good others rs ≡ true → (front rest : List ℕ) (at : ℕ) → length front ≡ at
+      → load-rows (front ++ (saved others rs ++ rest)) at rs others ≡ others
+  unfolding load-rows saved values-good Keeps
+  rows-own [] k g front rest at e = refl
+  rows-own (r ∷ rs) k g front rest at e =
       let own : List ℕ = entry-bits (r .kind) (r .len) (part others r) in
       let gg = and-eq-true-iff (within r (number others (r .place) (r .len))) (values-good others rs) .0 g in
       let lp : length (part others r) ≡ r .len = part-long others r (k .0) hn in
@@ -140,7 +132,8 @@ module _ (others : List ℕ) (hb : Bytes others) (hn : length others ≡ 1024) w
       let n : length (front ++ own) ≡ at + row-width r = omega (arith, length-append front own, length-entry (r .kind) (r .len) (part others r) lp) in
       let f : front ++ ((own ++ saved others rs) ++ rest) ≡ (front ++ own) ++ (saved others rs ++ rest) =
       ap (λ (l : List ℕ). front ++ l) (append-assoc own (saved others rs) rest) ∙ sym (append-assoc front own (saved others rs ++ rest)) in
-      rw (d, b, f) (rows-back rs (k .1) (gg .1) (front ++ own) rest (at + row-width r) n (splice values (r .place) (part others r)))
+      let s : splice others (r .place) (part others r) ≡ others = splice-own others (r .place) (r .len) (omega (arith, k .0 .sized .inside)) in
+      rw (d, b, s, f) (rows-own rs (k .1) (gg .1) (front ++ own) rest (at + row-width r) n)
 
   rows-fine : (rs : List Row) → Keeps rs → values-good others rs ≡ true → (front rest : List ℕ) (at : ℕ) → length front ≡ at
       → rows-good (front ++ (saved others rs ++ rest)) at rs ≡ true
@@ -163,10 +156,9 @@ module _ (others : List ℕ) (hb : Bytes others) (hn : length others ≡ 1024) w
       rw (f, w) (rw (sym (append-assoc front own tail)) (rows-fine rs (k .1) (gg .1) (front ++ own) rest (at + row-width r) n))
 
   module _ (model : ℕ) (rs : List Row) (k : Keeps rs) (g : values-good others rs ≡ true) where
-    -- a stored block loads whole: every NV byte is that of the values stored, every other is left
-    pub load-stored : (values : List ℕ) → load-rows (block-of model others rs) 8 rs values ≡ copy-rows others rs values
-    load-stored values =
-        ap (λ (b : List ℕ). load-rows b 8 rs values) (block-parts model others rs) ∙ rows-back rs k g (head model) _ 8 (length-head model) values
+    -- into the values that it was stored from, a block brings nothing new
+    pub load-own : load-rows (block-of model others rs) 8 rs others ≡ others
+    load-own = ap (λ (b : List ℕ). load-rows b 8 rs others) (block-parts model others rs) ∙ rows-own rs k g (head model) _ 8 (length-head model)
 
     -- and is not faulty
     pub stored-good : model < 16 → good model (block-of model others rs) rs ≡ true
@@ -186,40 +178,40 @@ module _ (others : List ℕ) (hb : Bytes others) (hn : length others ≡ 1024) w
 -- ---- stored after loaded: the same bits
 
 module _ (bs : List ℕ) (sm : Small bs) where
-  rows-bits : (rs : List Row) (from at : ℕ) (values : List ℕ) → Keeps rs → Rising from rs → length values ≡ 1024 → at + widths rs ≤ length bs
-      → saved (load-rows bs at rs values) rs ≡ take (widths rs) (drop at bs)
-  unfolding saved load-rows widths Keeps Rising
-  rows-bits [] from at values k t n h = refl
-  rows-bits (r ∷ rs) from at values k t n h =
-      let own : List ℕ = entry-bytes (r .kind) (r .len) (drop at bs) in
-      let mid : List ℕ = splice values (r .place) own in
-      let lm : length mid ≡ 1024 = length-one values r (drop at bs) (k .0) n in
-      let one : part (load-rows bs (at + row-width r) rs mid) r ≡ own =
-      load-beside bs (at + row-width r) rs mid (r .place) (r .len) (k .1) (rising-clear rs (r .place) (r .len) (t .1)) lm
-      ∙ part-same values (r .place) own (room-of values r (k .0) n) (r .len) (length-bytes (r .kind) (r .len) (drop at bs)) in
-      let two : entry-bits (r .kind) (r .len) own ≡ take (row-width r) (drop at bs) =
+  shown-bits : (rs : List Row) (at : ℕ) (values : List ℕ) → Keeps rs → at + widths rs ≤ length bs → Shows bs at rs values → saved values rs ≡ take (widths rs) (drop at bs)
+  unfolding saved widths Keeps Shows
+  shown-bits [] at values k h s = refl
+  shown-bits (r ∷ rs) at values k h s =
+      let two : entry-bits (r .kind) (r .len) (entry-bytes (r .kind) (r .len) (drop at bs)) ≡ take (row-width r) (drop at bs) =
       back-entry (r .kind) (r .len) (drop at bs) (small-drop at bs sm) (omega (arith, length-drop at bs)) (k .0 .sized .some) in
-      rw (one, two, rows-bits rs (r .place + r .len) (at + row-width r) mid (k .1) (t .1) lm (omega arith))
+      rw (s .0, two, shown-bits rs (at + row-width r) values (k .1) (omega arith) (s .1))
       (rw (← drop-drop (row-width r) at bs) (sym (take-add (row-width r) (widths rs) (drop at bs))))
 
-  -- the values loaded from good bits are good
-  rows-values : (rs : List Row) (from at : ℕ) (values : List ℕ) → Keeps rs → Rising from rs → length values ≡ 1024 → at + widths rs ≤ length bs
-      → rows-good bs at rs ≡ true → values-good (load-rows bs at rs values) rs ≡ true
-  unfolding values-good rows-good load-rows widths Keeps Rising number field
-  rows-values [] from at values k t n h g = refl
-  rows-values (r ∷ rs) from at values k t n h g =
-      let own : List ℕ = entry-bytes (r .kind) (r .len) (drop at bs) in
-      let mid : List ℕ = splice values (r .place) own in
-      let lm : length mid ≡ 1024 = length-one values r (drop at bs) (k .0) n in
-      let gg = and-eq-true-iff (within r (num (take (row-width r) (drop at bs)))) (rows-good bs (at + row-width r) rs) .0 g in
-      let one : part (load-rows bs (at + row-width r) rs mid) r ≡ own =
-      load-beside bs (at + row-width r) rs mid (r .place) (r .len) (k .1) (rising-clear rs (r .place) (r .len) (t .1)) lm
-      ∙ part-same values (r .place) own (room-of values r (k .0) n) (r .len) (length-bytes (r .kind) (r .len) (drop at bs)) in
-      let w : within r (fromLittle own) ≡ true =
+  -- a number of the values is the field of the bits
+  shown-field : (r : Row) (at : ℕ) (values : List ℕ) → Kept r → at + row-width r ≤ length bs → part values r ≡ entry-bytes (r .kind) (r .len) (drop at bs) → r .kind ≤ REAL
+      → number values (r .place) (r .len) ≡ field bs at (row-width r)
+  unfolding number field
+  shown-field r at values k h s c =
+      ap fromLittle s ∙ number-back (r .kind) (r .len) (drop at bs) (small-drop at bs sm) (omega (arith, length-drop at bs)) (k .sized .some) c
+
+  pub shown-number : (rs : List Row) (at : ℕ) (values : List ℕ) → Keeps rs → at + widths rs ≤ length bs → Shows bs at rs values → (j : ℕ) → j < length rs → getD rs j no-row .kind ≤ REAL
+      → number values (getD rs j no-row .place) (getD rs j no-row .len) ≡ getD (saved-numbers bs at rs) j 0
+  unfolding widths Keeps Shows saved-numbers
+  shown-number [] at values k h s j l c = absurd (not-suc-le-zero l)
+  shown-number (r ∷ rs) at values k h s zero l c = shown-field r at values (k .0) (omega arith) (s .0) c ∙ ap (field bs at) (sym (cut-is r (k .0) c))
+  shown-number (r ∷ rs) at values k h s (suc j) l c = shown-number rs (at + row-width r) values (k .1) (omega arith) (s .1) j (le-of-suc-le-suc l) c
+
+  -- of good bits they are good
+  shown-good : (rs : List Row) (at : ℕ) (values : List ℕ) → Keeps rs → at + widths rs ≤ length bs → Shows bs at rs values → rows-good bs at rs ≡ true → values-good values rs ≡ true
+  unfolding values-good rows-good widths Keeps Shows
+  shown-good [] at values k h s g = refl
+  shown-good (r ∷ rs) at values k h s g =
+      let gg = and-eq-true-iff (within r (field bs at (row-width r))) (rows-good bs (at + row-width r) rs) .0 g in
+      let w : within r (number values (r .place) (r .len)) ≡ true =
       number-or-string (r .kind)
-      (λ c. ap (within r) (number-back (r .kind) (r .len) (drop at bs) (small-drop at bs sm) (omega (arith, length-drop at bs)) (k .0 .sized .some) c) ∙ gg .0)
+      (λ c. ap (within r) (shown-field r at values (k .0) (omega arith) (s .0) c) ∙ gg .0)
       (λ c. sym (within-string r _ c)) in
-      rw (one, w) (rows-values rs (r .place + r .len) (at + row-width r) mid (k .1) (t .1) lm (omega arith) (gg .1))
+      rw w (shown-good rs (at + row-width r) values (k .1) (omega arith) (s .1) (gg .1))
 
   part-num : (at w : ℕ) → at + w ≤ length bs → msb w (field bs at w) ≡ take w (drop at bs)
   unfolding field
@@ -249,7 +241,8 @@ module _ (bs : List ℕ) (sm : Small bs) where
       let mdl : msb 4 model ≡ take 4 (drop 4 bs) = ap (msb 4) (sym (eqb-true (field bs 4 4) model (gs .1))) ∙ part-num 4 4 (omega arith) in
       let ln : length (drop (8 + w) bs) ≡ 4096 - (8 + w) = length-drop (8 + w) bs ∙ ap (λ (x : ℕ). x - (8 + w)) e in
       let zs : replicate (4096 - (8 + w)) 0 ≡ drop (8 + w) bs = sym (zeros-are (drop (8 + w) bs) (gs .3) ∙ ap (λ (j : ℕ). replicate {A = ℕ} j 0) ln) in
-      let rb : saved (load-rows bs 8 rs values) rs ≡ take w (drop 8 bs) = rows-bits rs 0 8 values k t n (omega arith) in
+      let rb : saved (load-rows bs 8 rs values) rs ≡ take w (drop 8 bs) =
+      shown-bits rs 8 _ k (omega arith) (load-shows bs rs 0 8 values k t n) in
       rw (lay, mdl, rb, zs)
       (ap (λ (l : List ℕ). take 4 bs ++ (take 4 (drop 4 bs) ++ l)) (take-rest w 8)
       ∙ ap (λ (l : List ℕ). take 4 bs ++ l) (take-rest 4 4)
@@ -257,4 +250,4 @@ module _ (bs : List ℕ) (sm : Small bs) where
 
   pub loaded-good : (model : ℕ) (rs : List Row) (values : List ℕ) → Keeps rs → Rising 0 rs → length values ≡ 1024 → length bs ≡ 4096 → 8 + widths rs ≤ 4096
       → good model bs rs ≡ true → values-good (load-rows bs 8 rs values) rs ≡ true
-  loaded-good model rs values k t n e u g = rows-values rs 0 8 values k t n (omega arith) (good-parts model rs g .2)
+  loaded-good model rs values k t n e u g = shown-good rs 8 _ k (omega arith) (load-shows bs rs 0 8 values k t n) (good-parts model rs g .2)

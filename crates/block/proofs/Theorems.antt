@@ -1,6 +1,7 @@
 -- THE SAVED BLOCK of the BAG552: a load after a store leaves every NV entry as it was, a store after a load gives the same 512
--- bytes, a faulty block changes nothing, and an entry without NV mark is never touched. Assumes nothing.
-use mathlib.Core.Bool.{Bool, true, false, cond}
+-- bytes, a faulty block changes nothing, no trip point is crossed in what is stored or loaded, and an entry without NV mark is never
+-- touched. Assumes nothing.
+use mathlib.Core.Bool.{Bool, true, false, cond, and-false, and-eq-true-iff}
 use mathlib.Core.List.{List, [], _∷_, _++_}
 use mathlib.Core.Path.{_≡_, refl, sym, ap, _∙_}
 use Prim.Native.Nat.{ℕ, zero, suc, _+_, _-_, _*_, _<_}
@@ -13,20 +14,19 @@ use Rattle.wire.proofs.LittleLaws.{Bytes}
 use Rattle.wire.proofs.SpliceLaws.{is-apart}
 use Rattle.bits.specs.Bits.{msb, bits, packed, Small}
 use Rattle.block.proofs.Entries.{small-entry}
-use Rattle.block.proofs.RoundTrips.{Clear, Rising, copy-rows, copied-entry, copy-own, load-beside, length-load, load-stored, stored-good, store-loaded, loaded-good}
-use Rattle.block.proofs.Tables.{Among, nv-among, nv-clear, table-rises}
-use Rattle.block.proofs.Turns.{nv-keep, used, kept-at}
+use Rattle.block.proofs.RoundTrips.{Clear, load-beside, length-load, load-shows, shown-entry, load-own, stored-good, store-loaded, loaded-good}
+use Rattle.block.proofs.Straight.{loadable-over}
+use Rattle.block.proofs.Tables.{Among, nv-among, nv-clear}
+use Rattle.block.proofs.Turns.{nv-keep, nv-rise, used, kept-at}
 use Rattle.block.proofs.Walking.{length-saved}
 use Rattle.block.specs.Block.{LAYOUT, BAG552, part, entry-bits, widths, saved, load-rows, values-good, block-of, good}
-use Rattle.block.specs.Saved.{saved-rows, storable, stored-block, loadable, loaded}
+use Rattle.block.specs.Saved.{saved-rows, storable, stored-block, loadable, loaded, leaves-straight}
+use Rattle.crossed.specs.Crossed.{straight}
 use Rattle.entry.specs.Entry.{entry-of}
-use Rattle.table.proofs.Table.{rows-pass, rows-length, disjoint}
+use Rattle.table.proofs.Table.{rows-length, disjoint}
 use Rattle.table.specs.Row.{Row, no-row}
 use Rattle.table.specs.Rows.{rows, row-count, at-row}
 use Rattle.table.specs.Rule.{held}
-
-nv-rise : Rising 0 saved-rows
-nv-rise = table-rises rows rows-pass
 
 -- ---- the block of any values
 
@@ -85,7 +85,15 @@ entry-part : (values : List ℕ) (k : ℕ) → k < row-count → at-row k .nv �
 unfolding entry-of
 entry-part values k h m = ap (λ (n : ℕ). take n (drop (at-row k .place) values)) (kept-at k h m .held-all)
 
+taken : (block values : List ℕ) → loadable block ≡ true → loaded block values ≡ load-rows (bits block) 8 saved-rows values
+unfolding loaded
+taken block values ok = rw ok
+
 module _ (values block : List ℕ) (hb : Bytes values) (hn : length values ≡ 1024) (ok : storable values ≡ true) where
+  sound : (values-good values saved-rows ≡ true) × (straight values ≡ true)
+  unfolding storable
+  sound = and-eq-true-iff (values-good values saved-rows) _ .0 ok
+
   stored-is : stored-block values block ≡ packed 512 (block-of BAG552 values saved-rows)
   unfolding stored-block
   stored-is = rw ok
@@ -93,57 +101,74 @@ module _ (values block : List ℕ) (hb : Bytes values) (hn : length values ≡ 1
   stored-bits : bits (stored-block values block) ≡ block-of BAG552 values saved-rows
   stored-bits = ap bits stored-is ∙ bits-block values hn
 
+  stored-own : load-rows (bits (stored-block values block)) 8 saved-rows values ≡ values
+  stored-own = ap (λ (b : List ℕ). load-rows b 8 saved-rows values) stored-bits ∙ load-own values hb hn BAG552 saved-rows nv-keep (sound .0)
+
   -- what was stored is not faulty
   pub stored-loadable : loadable (stored-block values block) ≡ true
-  unfolding loadable storable
-  stored-loadable = ap (λ (b : List ℕ). good BAG552 b saved-rows) stored-bits ∙ stored-good values hb hn BAG552 saved-rows nv-keep ok (lit< tt)
-
-  loaded-is : (others : List ℕ) → loaded (stored-block values block) others ≡ copy-rows values saved-rows others
-  unfolding loaded storable
-  loaded-is others =
-      rw stored-loadable (ap (λ (b : List ℕ). load-rows b 8 saved-rows others) stored-bits ∙ load-stored values hb hn BAG552 saved-rows nv-keep ok others)
+  stored-loadable =
+      loadable-over (stored-block values block) (ap length stored-is ∙ length-packed 512 _) values hn
+      ∙ and-eq-true-iff _ _ .1 (ap (λ (b : List ℕ). good BAG552 b saved-rows) stored-bits ∙ stored-good values hb hn BAG552 saved-rows nv-keep (sound .0) (lit< tt), ap straight stored-own ∙ sound .1)
 
   -- every NV entry is as it was at the store, whatever the values became
   pub load-restores : (others : List ℕ) → length others ≡ 1024 → (k : ℕ) → k < row-count → at-row k .nv ≡ 1
       → entry-of (at-row k) (loaded (stored-block values block) others) ≡ entry-of (at-row k) values
   load-restores others n k h m =
       let a : Among saved-rows (at-row k) = nv-among rows k (omega (arith, rows-length)) m in
-      let e : part (copy-rows values saved-rows others) (getD saved-rows (a .nth) no-row) ≡ part values (getD saved-rows (a .nth) no-row) =
-      copied-entry values saved-rows 0 others nv-keep nv-rise hn n (a .nth) (a .there) in
+      let bs : List ℕ = bits (stored-block values block) in
+      let e : part (load-rows bs 8 saved-rows others) (getD saved-rows (a .nth) no-row) ≡ part (load-rows bs 8 saved-rows values) (getD saved-rows (a .nth) no-row) =
+      shown-entry bs saved-rows 8 _ _ (load-shows bs saved-rows 0 8 others nv-keep nv-rise n) (load-shows bs saved-rows 0 8 values nv-keep nv-rise hn) (a .nth) (a .there) in
       entry-part (loaded (stored-block values block) others) k h m
-      ∙ ap (λ (v : List ℕ). part v (at-row k)) (loaded-is others)
+      ∙ ap (λ (v : List ℕ). part v (at-row k)) (taken (stored-block values block) others stored-loadable)
       ∙ (rw (a .is) at e)
+      ∙ ap (λ (v : List ℕ). part v (at-row k)) stored-own
       ∙ sym (entry-part values k h m)
 
   -- and the values themselves are left
   pub load-leaves : loaded (stored-block values block) values ≡ values
-  load-leaves = loaded-is values ∙ copy-own values saved-rows nv-keep hn
+  load-leaves = taken (stored-block values block) values stored-loadable ∙ stored-own
 
 -- a store that is refused writes nothing
 pub refused-leaves : (values block : List ℕ) → storable values ≡ false → stored-block values block ≡ block
 unfolding stored-block
 refused-leaves values block e = rw e
 
--- ---- store after load
+-- values with a crossed trip point are not stored (R3.7, R8.6)
+pub crossed-unstored : (values : List ℕ) → straight values ≡ false → storable values ≡ false
+unfolding storable
+crossed-unstored values e = rw e (and-false (values-good values saved-rows))
+
+-- ---- a block that is taken, and a store after it
+
+module _ (block values : List ℕ) (lb : length block ≡ 512) (hn : length values ≡ 1024) where
+  -- a block that would leave a trip point crossed is faulty (R3.7, R4.3)
+  pub crossed-refused : leaves-straight block values ≡ false → loadable block ≡ false
+  crossed-refused e = loadable-over block lb values hn ∙ rw e (and-false (good BAG552 (bits block) saved-rows))
+
+  sound-block : loadable block ≡ true → (good BAG552 (bits block) saved-rows ≡ true) × (leaves-straight block values ≡ true)
+  sound-block ok = and-eq-true-iff (good BAG552 (bits block) saved-rows) _ .0 (sym (loadable-over block lb values hn) ∙ ok)
+
+  -- and one that is taken leaves none
+  pub loaded-straight : loadable block ≡ true → straight (loaded block values) ≡ true
+  loaded-straight ok = ap straight (taken block values ok) ∙ sound-block ok .1
 
 module _ (block values : List ℕ) (hb : Bytes block) (lb : length block ≡ 512) (hn : length values ≡ 1024) (ok : loadable block ≡ true) where
-  loaded-all : loaded block values ≡ load-rows (bits block) 8 saved-rows values
-  unfolding loaded
-  loaded-all = rw ok
-
   pub loaded-storable : storable (loaded block values) ≡ true
-  unfolding storable loadable
+  unfolding storable
   loaded-storable =
-      ap (λ (v : List ℕ). values-good v saved-rows) loaded-all
-      ∙ loaded-good (bits block) (small-bits block) BAG552 saved-rows values nv-keep nv-rise hn (length-bits block ∙ ap (λ (n : ℕ). 8 * n) lb) used ok
+      and-eq-true-iff _ _ .1 (
+        ap (λ (v : List ℕ). values-good v saved-rows) (taken block values ok)
+            ∙ loaded-good (bits block) (small-bits block) BAG552 saved-rows values nv-keep nv-rise hn (length-bits block ∙ ap (λ (n : ℕ). 8 * n) lb) used (sound-block block values lb hn ok .0),
+        loaded-straight block values lb hn ok,
+      )
 
   -- the same 512 bytes
   pub store-after-load : (old : List ℕ) → stored-block (loaded block values) old ≡ block
-  unfolding stored-block loadable
+  unfolding stored-block
   store-after-load old =
       rw loaded-storable
-      (ap (λ (v : List ℕ). packed 512 (block-of BAG552 v saved-rows)) loaded-all
-      ∙ ap (packed 512) (store-loaded (bits block) (small-bits block) BAG552 saved-rows values nv-keep nv-rise hn (length-bits block ∙ ap (λ (n : ℕ). 8 * n) lb) used ok)
+      (ap (λ (v : List ℕ). packed 512 (block-of BAG552 v saved-rows)) (taken block values ok)
+      ∙ ap (packed 512) (store-loaded (bits block) (small-bits block) BAG552 saved-rows values nv-keep nv-rise hn (length-bits block ∙ ap (λ (n : ℕ). 8 * n) lb) used (sound-block block values lb hn ok .0))
       ∙ ap (λ (n : ℕ). packed n (bits block)) (sym lb)
       ∙ bytes-of block hb)
 

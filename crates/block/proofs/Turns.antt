@@ -15,7 +15,8 @@ use Rattle.bits.specs.Bits.{bits, field}
 use Rattle.block.proofs.Entries.{length-entry}
 use Rattle.block.proofs.Judged.{held-judged, cut-is, cut-fits, saved-judged}
 use Rattle.block.proofs.Kept.{Kept, kept}
-use Rattle.block.proofs.Tables.{table-keeps, table-used}
+use Rattle.block.proofs.RoundTrips.{Rising}
+use Rattle.block.proofs.Tables.{table-keeps, table-rises, table-used}
 use Rattle.block.proofs.Walking.{Keeps, keeps-at, keeps-take, fits, part-long, length-saved, length-starts, length-numbers, widths-next, widths-all, saved-next, load-next, number-here, held-next, saved-front-next, start-here, start-next}
 use Rattle.block.proofs.Zeros.{zero-behind}
 use Rattle.block.specs.Asked.{Fields, cut, Cuts, Places, lowest, highest, Limits, Sized, fresh-bytes, entry-len, between, held-front, saved-front, saved-numbers, Front}
@@ -36,6 +37,9 @@ use Rattle.wire.specs.Splice.{splice}
 
 pub nv-keep : Keeps saved-rows
 nv-keep = table-keeps rows rows-pass
+
+pub nv-rise : Rising 0 saved-rows
+nv-rise = table-rises rows rows-pass
 
 pub used : 8 + widths saved-rows ≤ 4096
 used = table-used rows rows-pass

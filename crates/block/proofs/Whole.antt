@@ -11,12 +11,14 @@ use borrow.Author.Tests.{eq-eqb, ne-eqb}
 use Rattle.bits.proofs.Numbers.{length-msb, bytes-of, bits-append}
 use Rattle.wire.proofs.LittleLaws.{Bytes}
 use Rattle.bits.specs.Bits.{msb, bits, field, packed}
+use Rattle.block.proofs.Straight.{straight-known, loadable-over}
 use Rattle.block.proofs.Turns.{nv-keep, nv-length, nv-ends}
 use Rattle.block.proofs.Walking.{length-saved, held-all-good, saved-all-good, held-most, front-most}
 use Rattle.block.proofs.Zeros.{zero-field}
-use Rattle.block.specs.Asked.{fresh-bytes, held-front, saved-front}
+use Rattle.block.specs.Asked.{fresh-bytes, held-front, saved-front, Front, straight-by}
 use Rattle.block.specs.Block.{LAYOUT, BAG552, widths, saved, load-rows, values-good, rows-good, all-zero, block-of, headed, good}
-use Rattle.block.specs.Saved.{saved-rows, storable, stored-block, loadable, loaded}
+use Rattle.block.specs.Saved.{saved-rows, storable, stored-block, loadable, loaded, leaves-straight}
+use Rattle.crossed.specs.Crossed.{straight}
 use Rattle.table.specs.Row.{Row}
 use Rattle.table.specs.Rows.{nv-count, nv-end}
 use Rattle.wire.proofs.SpliceLaws.{splice-behind}
@@ -43,18 +45,22 @@ pub head-bad : (block values : List ℕ) {b : Bool} → b ≡ headed BAG552 (bit
 unfolding loadable good loaded
 head-bad block values e f = let h : headed BAG552 (bits block) ≡ false = sym e ∙ f in (rw h, rw h)
 
+not-good : (block : List ℕ) → good BAG552 (bits block) saved-rows ≡ false → 0 ≡ cond (loadable block) nv-count 0
+unfolding loadable
+not-good block e = taken-none (loadable block) (sym (rw e))
+
 module _ (block : List ℕ) (h : headed BAG552 (bits block) ≡ true) {rest : Bool} (is-rest : rest ≡ all-zero (drop nv-end (bits block))) where
-  by-parts : loadable block ≡ (rows-good (bits block) 8 saved-rows && rest)
-  unfolding loadable good
+  by-parts : good BAG552 (bits block) saved-rows ≡ (rows-good (bits block) 8 saved-rows && rest)
+  unfolding good
   by-parts =
       rw h
       (ap (λ (k : ℕ). rows-good (bits block) 8 saved-rows && all-zero (drop k (bits block))) nv-ends ∙ ap (λ (b : Bool). rows-good (bits block) 8 saved-rows && b) (sym is-rest))
 
   pub rest-bad : rest ≡ false → 0 ≡ cond (loadable block) nv-count 0
-  rest-bad z = taken-none (loadable block) (sym (by-parts ∙ rw z (and-false (rows-good (bits block) 8 saved-rows))))
+  rest-bad z = not-good block (by-parts ∙ rw z (and-false (rows-good (bits block) 8 saved-rows)))
 
   module _ (z : rest ≡ true) {front : ℕ} (is-front : front ≡ saved-front (bits block) 8 saved-rows) where
-    by-front : loadable block ≡ eqb front nv-count
+    by-front : good BAG552 (bits block) saved-rows ≡ eqb front nv-count
     by-front =
         by-parts ∙ ap (λ (b : Bool). rows-good (bits block) 8 saved-rows && b) z ∙ and-true _
         ∙ saved-all-good (bits block) 8 saved-rows
@@ -62,12 +68,24 @@ module _ (block : List ℕ) (h : headed BAG552 (bits block) ≡ true) {rest : Bo
         ∙ ap (eqb front) nv-length
 
     pub entry-bad : front < nv-count → 0 ≡ cond (loadable block) nv-count 0
-    entry-bad h = taken-none (loadable block) (sym (by-front ∙ ne-eqb front nv-count (λ q. omega arith)))
+    entry-bad h = not-good block (by-front ∙ ne-eqb front nv-count (λ q. omega arith))
 
-    pub all-taken : nv-count ≤ front → front ≡ cond (loadable block) nv-count 0
-    all-taken h =
-        let q : front ≡ nv-count = omega (arith, front-most (bits block) 8 saved-rows, nv-length) in
-        q ∙ taken-all (loadable block) (sym (by-front ∙ eq-eqb front nv-count q))
+    -- all entries are good, and an answer says whether a trip point is crossed
+    module _ (all : nv-count ≤ front) (lb : length block ≡ 512) (numbers : List ℕ) (known : Front (bits block) numbers front) (long : length numbers ≡ nv-count) {answer : Bool} (says : answer ≡ straight-by numbers) where
+      all-there : front ≡ nv-count
+      all-there = omega (arith, front-most (bits block) 8 saved-rows, nv-length)
+
+      by-points : loadable block ≡ answer
+      by-points =
+          loadable-over block lb (replicate 1024 0) refl
+          ∙ ap (λ (b : Bool). b && leaves-straight block (replicate 1024 0)) (by-front ∙ eq-eqb front nv-count all-there)
+          ∙ sym (says ∙ straight-known block lb (replicate 1024 0) refl numbers front known all long)
+
+      pub crossed-bad : answer ≡ false → 0 ≡ cond (loadable block) nv-count 0
+      crossed-bad e = taken-none (loadable block) (sym (by-points ∙ e))
+
+      pub all-taken : answer ≡ true → front ≡ cond (loadable block) nv-count 0
+      all-taken e = all-there ∙ taken-all (loadable block) (sym (by-points ∙ e))
 
 -- ---- the block that is stored
 
@@ -152,22 +170,32 @@ fresh-over fresh n l c d =
 bytes-with : (block : List ℕ) {bs : List ℕ} → Bytes block → length block ≡ 512 → bits block ≡ bs → block ≡ packed 512 bs
 bytes-with block h n e = sym (bytes-of block h) ∙ ap (λ (k : ℕ). packed k (bits block)) n ∙ ap (packed 512) e
 
-module _ (values block : List ℕ) {n : ℕ} (is-front : n ≡ held-front values saved-rows) where
-  by-front-held : values-good values saved-rows ≡ eqb n nv-count
-  by-front-held = held-all-good values saved-rows ∙ ap (λ (k : ℕ). eqb k (length saved-rows)) (sym is-front) ∙ ap (eqb n) nv-length
+-- values with a crossed trip point
+pub store-crossed : (values block : List ℕ) {answer : Bool} → answer ≡ straight values → answer ≡ false → (false ≡ storable values) × (block ≡ stored-block values block)
+unfolding storable stored-block
+store-crossed values block says e =
+    let f : storable values ≡ false = rw (← says, e) (and-false (values-good values saved-rows)) in
+    (sym f, sym (rw f))
+
+module _ (values block : List ℕ) (is-straight : straight values ≡ true) {n : ℕ} (is-front : n ≡ held-front values saved-rows) where
+  by-front-held : storable values ≡ eqb n nv-count
+  unfolding storable
+  by-front-held =
+      rw is-straight (and-true (values-good values saved-rows))
+      ∙ held-all-good values saved-rows ∙ ap (λ (k : ℕ). eqb k (length saved-rows)) (sym is-front) ∙ ap (eqb n) nv-length
 
   pub store-refused : n < nv-count → (false ≡ storable values) × (block ≡ stored-block values block)
-  unfolding storable stored-block
+  unfolding stored-block
   store-refused h =
-      let e : values-good values saved-rows ≡ false = by-front-held ∙ ne-eqb n nv-count (λ q. omega arith) in
+      let e : storable values ≡ false = by-front-held ∙ ne-eqb n nv-count (λ q. omega arith) in
       (sym e, sym (rw e))
 
   pub store-done : nv-count ≤ n → length values ≡ 1024 → (fresh : List ℕ) {done : List ℕ} → bits fresh ≡ splice (splice (splice (bits (replicate fresh-bytes 0)) 0 (msb 4 LAYOUT)) 4 (msb 4 BAG552)) 8 (saved values (take n saved-rows))
       → done ≡ fresh ++ replicate (512 - fresh-bytes) 0 → Bytes done → length done ≡ 512 → (true ≡ storable values) × (done ≡ stored-block values block)
-  unfolding storable stored-block
+  unfolding stored-block
   store-done h lv fresh {done} w d hb l =
       let q : n ≡ nv-count = omega (arith, held-most values saved-rows, nv-length) in
-      let e : values-good values saved-rows ≡ true = by-front-held ∙ eq-eqb n nv-count q in
+      let e : storable values ≡ true = by-front-held ∙ eq-eqb n nv-count q in
       let z : take n saved-rows ≡ saved-rows = take-all n saved-rows (omega (arith, nv-length)) in
       let f : bits done ≡ block-of BAG552 values saved-rows = ap bits d ∙ stored-bits values fresh lv (w ∙ rw z) in
       (sym e, bytes-with done hb l f ∙ sym (rw e))

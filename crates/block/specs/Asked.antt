@@ -1,16 +1,17 @@
 -- SHAPE: what the functions ask and give: of the columns lent, of an entry, of a walk over the NV rows.
-use mathlib.Core.Bool.{Bool, cond, _&&_}
+use mathlib.Core.Bool.{Bool, cond, not, _&&_}
 use mathlib.Core.List.{List, [], _∷_, map}
 use mathlib.Core.Path.{_≡_}
 use Prim.Native.Nat.{ℕ, suc, _+_, _/_, _≤_}
 use lib.Dec.{leb}
-use lib.ListN.{take}
+use lib.ListN.{take, getD}
 use Rattle.bits.specs.Bits.{field}
 use Rattle.block.specs.Block.{row-width, within}
 use Rattle.block.specs.Saved.{saved-rows}
+use Rattle.crossed.specs.Crossed.{crossed}
 use Rattle.limits.specs.Limits.{number-len}
 use Rattle.table.specs.Row.{Row, REAL}
-use Rattle.table.specs.Rows.{nv-end}
+use Rattle.table.specs.Rows.{nv-end, nv-point-1, nv-point-2, nv-high-enable, nv-low-enable, nv-high-level, nv-low-level}
 use Rattle.table.specs.Rule.{rank}
 use Rattle.wire.specs.Little.{number}
 
@@ -86,3 +87,14 @@ saved-numbers bs at (r ∷ rs) = field bs at (cut r) ∷ saved-numbers bs (at + 
 -- the first n of them are known
 abbrev pub Front : List ℕ → List ℕ → ℕ → Type 0
 Front bs numbers n = take n numbers ≡ take n (saved-numbers bs 8 saved-rows)
+
+-- ---- the trip points among the entries' numbers; which entries are theirs is computed in proofs/Straight
+
+-- the point whose entries begin with this one: both enables, the high and the low level
+unfoldable pub crossed-by : List ℕ → ℕ → Bool
+crossed-by numbers first =
+    crossed (getD numbers (first + nv-high-enable) 0) (getD numbers (first + nv-low-enable) 0) (getD numbers (first + nv-high-level) 0) (getD numbers (first + nv-low-level) 0)
+
+-- neither point is crossed (R3.7)
+unfoldable pub straight-by : List ℕ → Bool
+straight-by numbers = not (crossed-by numbers nv-point-1) && not (crossed-by numbers nv-point-2)

@@ -85,7 +85,7 @@ block-of model values rs = msb 4 LAYOUT ++ (msb 4 model ++ (saved values rs ++ r
 unfoldable pub headed : ℕ → List ℕ → Bool
 headed model bs = eqb (field bs 0 4) LAYOUT && eqb (field bs 4 4) model
 
--- not faulty (R4.3)
+-- not faulty by its head, its entries and its rest (R4.3)
 unfoldable pub good : ℕ → List ℕ → List Row → Bool
 good model bs rs =
     headed model bs && (rows-good bs 8 rs && all-zero (drop (8 + widths rs) bs))

@@ -3,13 +3,13 @@ use find::columns;
 use wire::wide;
 ghost use mathlib.Core.Path.{_≡_};
 ghost use mathlib.Core.Bool.{true, cond};
-ghost use Prim.Native.Nat.{_*_, _≤_, _<_};
+ghost use Prim.Native.Nat.{_+_, _*_, _≤_, _<_};
 ghost use lib.ListN.{length, drop};
 ghost use Rattle.bits.specs.Bits.{bits};
-ghost use Rattle.table.specs.Rows.{nv-count};
+ghost use Rattle.table.specs.Rows.{nv-count, nv-low-level};
 ghost use Rattle.block.specs.Block.{BAG552, all-zero, headed};
 ghost use Rattle.block.specs.Saved.{saved-rows, loadable};
-ghost use Rattle.block.specs.Asked.{Fields, Cuts, Limits, between, saved-front, Front};
+ghost use Rattle.block.specs.Asked.{Fields, Cuts, Limits, between, saved-front, Front, crossed-by, straight-by};
 
 pub const LAYOUT: u32 = 1;
 
@@ -53,6 +53,32 @@ fn good_entries(
         i += 1;
     }
     i
+}
+
+// ---- The trip points.
+
+// The point whose entries begin with this one.
+fn is_crossed(numbers: &[u32], first: usize) -> bool
+    requires { ⌜ first + nv-low-level < length (now numbers) ⌝ }
+    ensures { λ r. ⌜ r ≡ crossed-by (now (numbers .entry)) first ⌝ }
+{
+    crossed::by_numbers(
+        numbers[first + columns::NV_HIGH_ENABLE],
+        numbers[first + columns::NV_LOW_ENABLE],
+        numbers[first + columns::NV_HIGH_LEVEL],
+        numbers[first + columns::NV_LOW_LEVEL],
+    )
+}
+
+// Is neither point crossed?
+fn is_straight(numbers: &[u32]) -> bool
+    requires { ⌜ length (now numbers) ≡ nv-count ⌝ }
+    ensures { λ r. ⌜ r ≡ straight-by (now (numbers .entry)) ⌝ }
+{
+    if is_crossed(numbers, columns::NV_POINT_1) {
+        return false;
+    }
+    !is_crossed(numbers, columns::NV_POINT_2)
 }
 
 // ---- The rest.
@@ -116,6 +142,9 @@ pub fn entries_taken(
     }
     let good = good_entries(kinds, ats, cuts, lows, highs, block, numbers);
     if good < columns::NV_ROWS {
+        return 0;
+    }
+    if !is_straight(numbers) {
         return 0;
     }
     good

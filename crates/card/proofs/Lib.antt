@@ -5,5 +5,6 @@ pub mod Made
 pub mod Shown
 pub mod Stored
 pub mod RoundTrip
+pub mod Crossing
 pub mod Entries
 mod Examples

@@ -1,8 +1,8 @@
 -- RULE: THE TRIP CARD, house row 2010 (R1.7, R3.1): a view of the trip entries (R3.3).
-use mathlib.Core.Bool.{Bool, cond, _&&_}
+use mathlib.Core.Bool.{cond}
 use mathlib.Core.List.{List, [], _∷_, _++_}
 use Prim.Native.Nat.{ℕ, _+_}
-use lib.Dec.{eqb, leb}
+use lib.Dec.{eqb}
 use lib.ListN.{drop, getD}
 use Rattle.wire.specs.Little.{number, put-number}
 use Rattle.wire.specs.Flags.{is-set, bit}
@@ -84,11 +84,6 @@ first-bad Below next = Below
 unfoldable pub point-verdict : List ℕ → Verdict
 point-verdict fields =
     first-bad (level-verdict (getD fields 2 0)) (first-bad (level-verdict (getD fields 3 0)) (first-bad (level-verdict (getD fields 4 0)) (level-verdict (getD fields 5 0))))
-
--- each number's pattern, as a whole number, is at most that of 1500: so it is within without more ado
-unfoldable pub plainly-within : List ℕ → Bool
-plainly-within fields =
-    leb (getD fields 2 0) 0x44BB8000 && (leb (getD fields 3 0) 0x44BB8000 && (leb (getD fields 4 0) 0x44BB8000 && leb (getD fields 5 0) 0x44BB8000))
 
 unfoldable pub card-verdict : List ℕ → Verdict
 card-verdict card =

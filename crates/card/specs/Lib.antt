@@ -1,2 +1,3 @@
 -- What the contracts of `card` cite.
 pub mod Card
+pub mod Asked

@@ -33,8 +33,8 @@ use Rattle.trip.specs.declared.Trips.{Trips}
 use Rattle.sample.specs.Sample.{values-after}
 use Rattle.gauge.specs.Memory.{Memory, Store, with-values}
 use Rattle.gauge.specs.Commands.{done, obeyed}
-use Rattle.gauge.specs.Checks.{asked-last, Test, no-such-index, no-such-subindex, only-written, only-read, announced-long, announced-short, sent-long, sent-short, under-lock, no-number, too-high, too-low, code-of, last-order, refused-by, unless-refused}
-use Rattle.gauge.specs.Whole.{by-type, value-of, effect, write-by, commit-row, with-trips, commit-whole}
+use Rattle.gauge.specs.Checks.{asked-last, Test, no-such-index, no-such-subindex, only-written, only-read, announced-long, announced-short, sent-long, sent-short, under-lock, no-number, too-high, too-low, crossed-1, crossed-2, code-of, last-order, refused-by, unless-refused}
+use Rattle.gauge.specs.Whole.{value-of, effect, write-by, commit-row, with-trips, commit-whole}
 use Rattle.gauge.proofs.ByGate.{read-through, sizes-of, commit-through, read-by-gate, sizes-by-gate, commit-by-gate}
 use Rattle.gauge.proofs.ValueLaws.{value-length}
 use Rattle.gauge.proofs.SummaryLaws.{fresh-length}
@@ -90,7 +90,7 @@ short-cond true x y h k = h
 short-cond false x y h k = k
 
 value-short : (r : ℕ) → r < row-count → (values : List ℕ) → length (value-of (at-row r) values) ≤ 64
-unfolding value-of by-type entry-of
+unfolding value-of entry-of
 value-short r h values =
     let m : held (at-row r) ≤ 64 = held-most (at-row r) (row-rule r h) in
     short-cond (eqb (at-row r .kind) CARD) _ _ (rw (length-card values) (omega arith))
@@ -118,10 +118,9 @@ done-ok StoreParameters m = tt
 done-ok LoadParameters m = tt
 
 effect-ok : (r : Row) (bytes : List ℕ) (m : Memory) → Coded (effect r bytes m)
-unfolding Coded effect by-type obeyed
+unfolding Coded effect obeyed
 effect-ok r bytes m =
-    ok-cond (eqb (r .kind) CARD) _ _ tt
-    (ok-cond (eqb (r .kind) COMMAND) _ _ (ok-cond (same-bytes bytes (word-of (command-at (r .index)))) _ _ (done-ok (command-at (r .index)) m) tt) tt)
+    ok-cond (eqb (r .kind) COMMAND) _ _ (ok-cond (same-bytes bytes (word-of (command-at (r .index)))) _ _ (done-ok (command-at (r .index)) m) tt) tt
 
 -- every test's code
 test-code : (t : Test) → Code (code-of t)
@@ -138,6 +137,8 @@ test-code under-lock = code 0x08000022 (omega arith) (omega arith)
 test-code no-number = code 0x06090030 (omega arith) (omega arith)
 test-code too-high = code 0x06090031 (omega arith) (omega arith)
 test-code too-low = code 0x06090032 (omega arith) (omega arith)
+test-code crossed-1 = code 0x06090036 (omega arith) (omega arith)
+test-code crossed-2 = code 0x06090036 (omega arith) (omega arith)
 
 unless-ok : (o : Option Test) (x : Outcome Memory) → Coded x → Coded (unless-refused o declined x)
 unfolding Coded unless-refused
@@ -265,14 +266,14 @@ abbrev pub GoodStore : Store → Type 0
 GoodStore g = Sized (g .memory)
 
 pub real-rows : Rows bag552 GoodStore
-real-rows = rows-hold Sized (λ m s. s .values-are) (λ k h e bytes n m s. commit-sized k h bytes m s n) sample-sized
+real-rows = rows-hold Sized (λ m s. s .values-are) (λ k h e bytes n m s. commit-sized k h bytes n m s) sample-sized
 
 pub powered-good : (block : List ℕ) → length block ≡ 512 → GoodStore (powered-store block)
 powered-good block n = record { values-are = fresh-length _; block-is = n }
 
 -- what the two lines keep in their records
 pub kept-records : Keeps setup transfers GoodStore Whole
-kept-records = records-hold Sized (λ m s. s .values-are) (λ k h e bytes n m s. commit-sized k h bytes m s n) sample-sized
+kept-records = keeps bag552 real-rows (setup .wires) (setup .speech)
 
 -- THEOREM: demand 3 for the board with its records by value, for every list of messages and samples from power-up
 pub demand3-board : (block : List ℕ) → length block ≡ 512 → (cs : List (Call setup)) → Demand3Records setup transfers (powered-store block) cs

@@ -8,13 +8,11 @@ use lib.Ieee.{Float}
 use lib.ListN.{length}
 use Rattle.wire.specs.Little.{put-number}
 use Rattle.wire.proofs.LittleLaws.{put-length}
+use Rattle.table.specs.Row.{COMMAND}
 use Rattle.table.specs.Rows.{row-count, at-row}
-use Rattle.table.specs.Rule.{held}
-use Rattle.table.specs.Places.{input-value, trip-input-1, trip-input-2, reading-valid, status-1, status-2, trip-outputs, sensor-error, active-word, latched-word, is-mask, power-on-time}
-use Rattle.entry.specs.Entry.{with-entry}
+use Rattle.table.specs.Places.{input-value, trip-input-1, trip-input-2, reading-valid, status-1, status-2, trip-outputs, sensor-error, active-word, latched-word, power-on-time}
 use Rattle.trip.specs.Trip.{usable-pressure}
 use Rattle.trip.specs.declared.Trips.{Trips}
-use Rattle.card.specs.Card.{with-card}
 use Rattle.card.proofs.Stored.{with-card-length}
 use Rattle.block.specs.Saved.{stored-block}
 use Rattle.block.proofs.Theorems.{length-stored}
@@ -25,16 +23,17 @@ use Rattle.command.specs.Exceptions.{exceptions-cleared}
 use Rattle.command.specs.declared.word.Command.{Command}
 use Rattle.command.specs.declared.word.Command.the-variants.{DeviceReset, ExceptionReset, StoreParameters, LoadParameters}
 use Rattle.gauge.specs.Memory.{Memory, memory-of, with-values}
-use Rattle.gauge.specs.Masks.{heeding}
+use Rattle.gauge.specs.Written.{with-value}
 use Rattle.gauge.specs.PowerUp.{block-taken, fresh-values, powered-up}
 use Rattle.gauge.specs.Commands.{done}
 use Rattle.gauge.specs.Whole.{commit-row}
 use Rattle.gauge.proofs.CommitLaws.{other-held}
+use Rattle.gauge.proofs.WrittenLaws.{by-card}
 use Rattle.gauge.proofs.GaugeLaws.{status-length, cleared-length}
 use Rattle.gauge.proofs.SummaryLaws.{summary-length, written-length, taken-length, fresh-length}
 use Rattle.demand3.proofs.WholeWrites.{After, commit-after}
 
-abbrev Long : List ℕ → Type 0
+abbrev pub Long : List ℕ → Type 0
 Long l = length l ≡ 1024
 
 put-long : (l : List ℕ) (at n v : ℕ) → leb (at + n) 1024 ≡ true → Long l → Long (put-number l at n v)
@@ -96,14 +95,14 @@ done-sized StoreParameters m s =
 done-sized LoadParameters m s =
     status-sized LoadParameters _ (block-taken (m .block) (m .values)) (m .block) (record { values-are = taken-length (m .block) (m .values) (s .values-are); block-is = s .block-is })
 
-pub card-sized : (bytes : List ℕ) (m : Memory) → Sized m → Sized (with-values m (with-card (m .values) bytes))
-card-sized bytes m s = record { values-are = with-card-length (m .values) bytes (s .values-are); block-is = s .block-is }
+module _ (k : ℕ) (there : k < row-count) (bytes : List ℕ) (size : length bytes ≡ at-row k .len) (m : Memory) (s : Sized m) where
+  pub value-sized : (at-row k .kind ≡ COMMAND → ⊥) → Sized (with-values m (with-value (at-row k) (m .values) bytes))
+  value-sized n =
+      record {
+        values-are =
+            by-card (at-row k) (m .values) bytes Long (λ c. with-card-length (m .values) bytes (s .values-are)) (λ c. written-length k there (m .values) bytes (s .values-are) (size ∙ sym (other-held k there c n)));
+        block-is = s .block-is;
+      }
 
-module _ (k : ℕ) (there : k < row-count) (bytes : List ℕ) (m : Memory) (s : Sized m) where
-  pub entry-sized : length bytes ≡ held (at-row k) → Sized (with-values m (heeding (is-mask (at-row k)) (with-entry (at-row k) (m .values) bytes)))
-  entry-sized fit = record { values-are = written-length k there (m .values) bytes (s .values-are) fit; block-is = s .block-is }
-
-  pub commit-sized : length bytes ≡ at-row k .len → After Sized (commit-row k bytes m)
-  commit-sized long =
-      commit-after Sized k bytes m (card-sized bytes m s) (λ c. done-sized c m s) (λ c. status-sized c 2 (m .values) (m .block) s)
-      (λ p q. entry-sized (long ∙ sym (other-held k there p q)))
+  pub commit-sized : After Sized (commit-row k bytes m)
+  commit-sized = commit-after Sized k bytes m (λ c. done-sized c m s) (λ c. status-sized c 2 (m .values) (m .block) s) (λ n pass. value-sized n)

@@ -3,13 +3,16 @@ pub mod Unique
 pub mod Refused
 pub mod CoatingShop
 pub mod Fab
+pub mod Relay
 pub mod WholeWrites
 pub mod Lengths
 pub mod Trips
 pub mod Bag552
 pub mod StateBytes
 pub mod Calls
+pub mod Ever
 pub mod NeverStale
+pub mod NeverCrossed
 pub mod Parts
 pub mod Observed
 pub mod Broken

@@ -5,4 +5,5 @@ pub mod Conversation
 pub mod Examples
 pub mod CoatingShop
 pub mod Fab
+pub mod Relay
 pub mod Refused

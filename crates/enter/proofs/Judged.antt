@@ -14,7 +14,8 @@ use Rattle.limits.specs.Ranks.{rank-verdict}
 use Rattle.limits.specs.declared.Verdict.{Verdict}
 use Rattle.limits.specs.declared.Verdict.the-variants.{Within, NotANumber, Above, Below}
 use Rattle.limits.proofs.LimitsLaws.{Patterns, by-ranks, rank-within}
-use Rattle.card.specs.Card.{point-1, point-2, fields-of, level-verdict, layout-verdict, first-bad, point-verdict, plainly-within, card-verdict}
+use Rattle.card.specs.Card.{point-1, point-2, fields-of, level-verdict, layout-verdict, first-bad, point-verdict, card-verdict}
+use Rattle.card.specs.Asked.{plainly-within}
 
 level-patterns : (v : ℕ) → v < 4294967296 → Patterns 0 0x44BB8000 v
 level-patterns v h =

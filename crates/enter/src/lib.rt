@@ -3,11 +3,12 @@ use limits::Verdict;
 use table::kind;
 use table::place;
 use wire::wide;
-ghost use mathlib.Core.Bool.{_&&_};
+ghost use mathlib.Core.Bool.{_&&_, _||_};
 ghost use mathlib.Core.Path.{_≡_};
 ghost use Prim.Native.Nat.{_+_, _*_, _/_, _%_, _≤_, _<_};
 ghost use lib.ListN.{length, getD};
-ghost use Rattle.card.specs.Card.{point-1, point-2, fields-of, level-verdict, layout-verdict, first-bad, plainly-within, card-verdict, with-point, with-card};
+ghost use Rattle.card.specs.Card.{point-1, point-2, fields-of, level-verdict, layout-verdict, first-bad, card-verdict, with-point, with-card};
+ghost use Rattle.card.specs.Asked.{plainly-within, fields-crossed};
 
 // ---- a card's fields
 
@@ -130,6 +131,25 @@ pub fn judge(card: &[u8]) -> Verdict
     let point_1 = judge_levels(one[2], one[3], one[4], one[5]);
     let point_2 = judge_levels(two[2], two[3], two[4], two[5]);
     first(layout, first(point_1, point_2))
+}
+
+fn point_crossed(fields: [u32; 6]) -> bool
+    ensures { λ r. ⌜ r ≡ fields-crossed fields ⌝ }
+{
+    crossed::by_numbers(fields[0], fields[1], fields[2], fields[4])
+}
+
+// Does a card leave a trip point crossed?
+pub fn is_crossed(card: &[u8]) -> bool
+    requires { ⌜ length (now card) ≡ 33 ⌝ }
+    ensures { λ r. ⌜ r ≡ (fields-crossed (fields-of (now (card .entry)) point-1) || fields-crossed (fields-of (now (card .entry)) point-2)) ⌝ }
+{
+    let one = fields_1(card);
+    let two = fields_2(card);
+    if point_crossed(one) {
+        return true;
+    }
+    point_crossed(two)
 }
 
 // ---- writing

@@ -2,6 +2,7 @@
 use mathlib.Core.Path.{_≡_, refl, sym, ap, _∙_}
 use mathlib.Core.Bool.{Bool, true, false, cond, _&&_, _||_, and-false}
 use mathlib.Core.List.{List}
+use mathlib.Core.Logic.{⊎-elim}
 use mathlib.Core.Option.{Option, none, some}
 use Prim.Native.Nat.{ℕ, _+_, _<_, _≤_}
 use native.Mathlib.Omega.{arith}
@@ -20,11 +21,12 @@ use Rattle.table.specs.Rule.{pick, held}
 use Rattle.table.specs.Walk.{every}
 use Rattle.table.specs.Find.{find-row, row-number}
 use Rattle.table.proofs.Table.{lock-found}
+use Rattle.table.proofs.Walks.{same-or-not}
 use Rattle.table.specs.Places.{latched-status, latched-size, latched, is-mask}
 use Rattle.limits.specs.Limits.{verdict-code}
 use Rattle.entry.specs.Entry.{entry-of, with-entry}
 use Rattle.limits.specs.declared.Verdict.{Verdict}
-use Rattle.limits.specs.declared.Verdict.the-variants.{Within, NotANumber, Above, Below}
+use Rattle.limits.specs.declared.Verdict.the-variants.{Within}
 use Rattle.card.specs.Card.{card-of, with-card}
 use Rattle.card.proofs.RoundTrip.{card-back}
 use Rattle.block.specs.Saved.{loadable, loaded}
@@ -36,6 +38,7 @@ use Rattle.command.specs.declared.word.Command.{Command}
 use Rattle.command.specs.declared.word.Command.the-variants.{DeviceReset, ExceptionReset, StoreParameters, LoadParameters}
 use Rattle.gauge.specs.Memory.{Memory, with-values}
 use Rattle.gauge.specs.Masks.{heeding, Summed}
+use Rattle.gauge.specs.Written.{with-value, crosses-1, crosses-2}
 use Rattle.gauge.specs.PowerUp.{block-taken, powered-up}
 use Rattle.gauge.specs.Commands.{done, obeyed}
 use Rattle.gauge.specs.Endings.{left, left-by}
@@ -43,7 +46,9 @@ use Rattle.gauge.specs.Checks.{asked, asked-last, fails, under-lock, Tes
 use Rattle.gauge.specs.Whole.{value-of, effect, write-by, commit-row}
 use Rattle.gauge.specs.declared.commit.Ending.the-variants.{Refused}
 use Rattle.gauge.proofs.InOrder.{each-passes}
-use Rattle.gauge.proofs.CommitLaws.{of-card, of-other, other-held, card-length, limits-first, card-judged}
+use Rattle.gauge.proofs.CommitLaws.{value-card, value-other, effect-other, other-held, card-length, no-code, limits-refuse, card-judged}
+use Rattle.gauge.proofs.Flags.{either-false}
+use Rattle.gauge.proofs.WrittenLaws.{written-card, written-entry}
 use Rattle.gauge.proofs.Spared.{spared, spare}
 use Rattle.gauge.proofs.SummaryLaws.{is-summary, summary-length, summary-leaves, heeding-leaves, summed-anew, beside, summed-beside, written-read, written-leaves, taken-length}
 
@@ -72,14 +77,12 @@ passed-all (some t) x n e = absurd (let z : _≡_ {A = ℕ} 0 1 = cc in omega ar
 only-one : (x n : Memory) → _≡_ {A = Outcome Memory} (stored x) (stored n) → x ≡ n
 only-one x n e = cc
 
-no-code : (v : Verdict) → verdict-code v ≡ 0 → v ≡ Within
-unfolding verdict-code
-no-code Within e = refl
-no-code NotANumber e = absurd (omega arith)
-no-code Above e = absurd (omega arith)
-no-code Below e = absurd (omega arith)
+pub passed-straight : (row : ℕ) (bytes values : List ℕ) → refused-by (asked-last row bytes values) last-order ≡ none
+    → (crosses-1 (at-row row) values bytes ≡ false) × (crosses-2 (at-row row) values bytes ≡ false)
+unfolding last-order fails row-number counted
+passed-straight row bytes values e = let pass = each-passes (asked-last row bytes values) last-order e in (pass 4 (omega arith), pass 5 (omega arith))
 
--- they passed the lock and lie within the limits
+-- they passed the lock, lie within the limits, and leave neither trip point that they touch crossed
 module _ (row : ℕ) (bytes : List ℕ) (m n : Memory) (done : commit-row row bytes m ≡ stored n) where
   passed : (refused-by (asked-last row bytes (m .values)) last-order ≡ none) × (effect (at-row row) bytes m ≡ stored n)
   unfolding commit-row write-by counted row-number
@@ -91,22 +94,30 @@ module _ (row : ℕ) (bytes : List ℕ) (m n : Memory) (done : commit-row row by
 
   pub accepted-within : verdict-of (at-row row) bytes ≡ Within
   unfolding unless-refused
-  accepted-within = no-code (verdict-of (at-row row) bytes) (limits-first row (m .values) bytes (verdict-of (at-row row) bytes) refl accepted-unlocked ∙ ap code-told (passed .0))
+  accepted-within = no-code v (⊎-elim (λ e. e) (λ n. limits-refuse row (m .values) bytes accepted-unlocked v refl n ∙ ap code-told (passed .0)) (same-or-not (verdict-code v) 0))
+    where
+      v : Verdict
+      v = verdict-of (at-row row) bytes
+
+  pub accepted-straight : (crosses-1 (at-row row) (m .values) bytes ≡ false) × (crosses-2 (at-row row) (m .values) bytes ≡ false)
+  accepted-straight = passed-straight row bytes (m .values) (passed .0)
+
+  -- what is no command leaves what is written
+  written-left : (at-row row .kind ≡ COMMAND → ⊥) → with-value (at-row row) (m .values) bytes ≡ n .values
+  written-left c = ap (λ (x : Memory). x .values) (only-one _ n (sym (effect-other (at-row row) bytes m c) ∙ passed .1))
 
 -- a stored entry reads as the bytes that were written, and every other entry as before; a mask moves the summary F380 too
 module _ (k : ℕ) (there : k < row-count) (no-card : at-row k .kind ≡ CARD → ⊥) (no-command : at-row k .kind ≡ COMMAND → ⊥) (bytes : List ℕ) (m n : Memory)
     (long : length (m .values) ≡ 1024) (size : length bytes ≡ at-row k .len) (done : commit-row k bytes m ≡ stored n) where
   values-left : heeding (is-mask (at-row k)) (with-entry (at-row k) (m .values) bytes) ≡ n .values
-  unfolding effect
-  values-left = ap (λ (x : Memory). x .values) (only-one _ n (sym (of-other (at-row k) (at-row k .kind) refl _ _ _ no-card no-command) ∙ passed k bytes m n done .1))
+  values-left = sym (written-entry (at-row k) (m .values) bytes no-card) ∙ written-left k bytes m n done no-command
 
   fit : length bytes ≡ held (at-row k)
   fit = size ∙ sym (other-held k there no-card no-command)
 
   pub write-read : value-of (at-row k) (n .values) ≡ bytes
-  unfolding value-of
   write-read =
-      of-other (at-row k) (at-row k .kind) refl _ _ _ no-card no-command
+      value-other (at-row k) (n .values) no-card no-command
       ∙ ap (entry-of (at-row k)) (sym values-left)
       ∙ written-read k there (m .values) bytes long fit
 
@@ -116,46 +127,52 @@ module _ (k : ℕ) (there : k < row-count) (no-card : at-row k .kind ≡ CARD �
 -- and so does the card
 pub card-write-read : (k : ℕ) → k < row-count → at-row k .kind ≡ CARD → (bytes : List ℕ) → Bytes bytes → (m n : Memory) → length (m .values) ≡ 1024 → length bytes ≡ at-row k .len
     → commit-row k bytes m ≡ stored n → value-of (at-row k) (n .values) ≡ bytes
-unfolding effect value-of
 card-write-read k there card bytes small m n long size e =
     let r : Row = at-row k in
-    let v : with-card (m .values) bytes ≡ n .values = ap (λ (x : Memory). x .values) (only-one _ n (sym (of-card r (r .kind) refl _ _ _ card) ∙ passed k bytes m n e .1)) in
-    of-card r (r .kind) refl _ _ _ card
+    let v : with-card (m .values) bytes ≡ n .values = sym (written-card r (m .values) bytes card) ∙ written-left k bytes m n e (λ c. omega arith) in
+    value-card r (n .values) card
     ∙ ap card-of (sym v)
     ∙ card-back (m .values) bytes long (size ∙ card-length k there card) small (sym (card-judged r bytes card) ∙ accepted-within k bytes m n e)
 
 -- ---- what a command leaves
 
--- the entries that the rules name for a command: its own status and response (R8.3); the summary and the latched words (R8.7) or the NV
+-- a command's own entries: word, status and response
+unfoldable pub own : Command → Row → Bool
+own DeviceReset r = eqb (r .index) 0xFBF0
+own ExceptionReset r = eqb (r .index) 0xFBF1
+own StoreParameters r = eqb (r .index) 0xFBF2
+own LoadParameters r = eqb (r .index) 0xFBF4
+
+-- the entries that the rules name for a command: its own (R8.3); the summary and the latched words (R8.7) or the NV
 -- entries (R8.5, R11.4)
 unfoldable pub named : Command → Row → Bool
-named DeviceReset r = eqb (r .index) 0xFBF0
-named ExceptionReset r = eqb (r .index) 0xFBF1 || (is-summary r || latched r)
-named StoreParameters r = eqb (r .index) 0xFBF2
-named LoadParameters r = eqb (r .index) 0xFBF4 || (is-summary r || eqb (r .nv) 1)
+named DeviceReset r = own DeviceReset r
+named ExceptionReset r = own ExceptionReset r || (is-summary r || latched r)
+named StoreParameters r = own StoreParameters r
+named LoadParameters r = own LoadParameters r || (is-summary r || eqb (r .nv) 1)
 
-neither : (a b c : Bool) → a || (b || c) ≡ false → (b ≡ false) × (c ≡ false)
-neither false false false e = (refl, refl)
-neither false false true e = absurd (let z : _≡_ {A = ℕ} 0 1 = cc in omega arith)
-neither false true c e = absurd (let z : _≡_ {A = ℕ} 0 1 = cc in omega arith)
-neither true b c e = absurd (let z : _≡_ {A = ℕ} 0 1 = cc in omega arith)
+none-of : (a b c : Bool) → a || (b || c) ≡ false → (a ≡ false) × (b ≡ false) × (c ≡ false)
+none-of a b c e =
+    let f = either-false a (b || c) e in
+    let g = either-false b c (f .1) in
+    (f .0, g .0, g .1)
 
-status-spared : (c : Command) → T (every (spared (named c) (status-of c) 1) rows)
-unfolding rows every spared named latched pick held status-of
+status-spared : (c : Command) → T (every (spared (own c) (status-of c) 1) rows)
+unfolding rows every spared own pick held status-of
 status-spared DeviceReset = tt
 status-spared ExceptionReset = tt
 status-spared StoreParameters = tt
 status-spared LoadParameters = tt
 
-response-spared : (c : Command) → T (every (spared (named c) (status-of c + 1) 1) rows)
-unfolding rows every spared named latched pick held status-of
+response-spared : (c : Command) → T (every (spared (own c) (status-of c + 1) 1) rows)
+unfolding rows every spared own pick held status-of
 response-spared DeviceReset = tt
 response-spared ExceptionReset = tt
 response-spared StoreParameters = tt
 response-spared LoadParameters = tt
 
 latched-spared : T (every (spared (named ExceptionReset) latched-status latched-size) rows)
-unfolding rows every spared named latched pick held
+unfolding rows every spared named own latched pick held
 latched-spared = tt
 
 -- status and response byte 0 are no other row's
@@ -177,12 +194,12 @@ module _ (c : Command) (code : ℕ) (values : List ℕ) (long : length values �
   unfolding with-status
   status-length = length-splice _ (status-of c + 1) (little 1 code) (omega (arith, inside-values, half-length, length-little 1 code)) ∙ half-length
 
-  pub status-leaves : (j : ℕ) → j < row-count → named c (at-row j) ≡ false → entry-of (at-row j) (with-status c code values) ≡ entry-of (at-row j) values
+  pub status-leaves : (j : ℕ) → j < row-count → own c (at-row j) ≡ false → entry-of (at-row j) (with-status c code values) ≡ entry-of (at-row j) values
   unfolding with-status
   status-leaves j h e =
       let half : List ℕ = splice values (status-of c) (little 1 code) in
-      spare (named c) (status-of c + 1) 1 (response-spared c) half (little 1 code) (le-leb (status-of c + 1) (length half) (omega (arith, inside-values, half-length))) (length-little 1 code) j h e
-      ∙ spare (named c) (status-of c) 1 (status-spared c) values (little 1 code) (le-leb (status-of c) (length values) (omega (arith, inside-values))) (length-little 1 code) j h e
+      spare (own c) (status-of c + 1) 1 (response-spared c) half (little 1 code) (le-leb (status-of c + 1) (length half) (omega (arith, inside-values, half-length))) (length-little 1 code) j h e
+      ∙ spare (own c) (status-of c) 1 (status-spared c) values (little 1 code) (le-leb (status-of c) (length values) (omega (arith, inside-values))) (length-little 1 code) j h e
 
 -- and neither the summary's nor the words' that it is worked out from
 status-beside : (c : Command) → (beside (status-of c) 1 ≡ true) × (beside (status-of c + 1) 1 ≡ true)
@@ -211,29 +228,37 @@ module _ (values : List ℕ) (long : length values ≡ 1024) where
   unfolding exceptions-cleared
   cleared-summed = summed-anew _ latched-length
 
-  cleared-leaves : (j : ℕ) → j < row-count → named ExceptionReset (at-row j) ≡ false → entry-of (at-row j) (exceptions-cleared values) ≡ entry-of (at-row j) values
+  pub cleared-leaves : (j : ℕ) → j < row-count → named ExceptionReset (at-row j) ≡ false → entry-of (at-row j) (exceptions-cleared values) ≡ entry-of (at-row j) values
   unfolding exceptions-cleared named
   cleared-leaves j h e =
-      summary-leaves _ latched-length j h (neither (eqb (at-row j .index) 0xFBF1) _ _ e .0)
+      summary-leaves _ latched-length j h (none-of (own ExceptionReset (at-row j)) _ _ e .1)
       ∙ spare (named ExceptionReset) latched-status latched-size latched-spared values (replicate latched-size 0) (rw long) refl j h e
 
 -- a command other than device reset leaves every entry that is not named for it; device reset is power-up
 module _ (m : Memory) (long : length (m .values) ≡ 1024) (j : ℕ) (there : j < row-count) where
+  -- what is not named for a command is not its own
+  not-own : (c : Command) → named c (at-row j) ≡ false → own c (at-row j) ≡ false
+  unfolding named
+  not-own DeviceReset d = d
+  not-own ExceptionReset d = none-of (own ExceptionReset (at-row j)) (is-summary (at-row j)) (latched (at-row j)) d .0
+  not-own StoreParameters d = d
+  not-own LoadParameters d = none-of (own LoadParameters (at-row j)) (is-summary (at-row j)) (eqb (at-row j .nv) 1) d .0
+
   -- a load does not name it: it is not the summary and has no NV mark
   not-loaded : named LoadParameters (at-row j) ≡ false → (is-summary (at-row j) ≡ false) × (at-row j .nv ≡ 1 → ⊥)
   unfolding named
-  not-loaded d = let n = neither (eqb (at-row j .index) 0xFBF4) _ _ d in (n .0, eqb-false (at-row j .nv) 1 (n .1))
+  not-loaded d = let n = none-of (own LoadParameters (at-row j)) _ _ d in (n .1, eqb-false (at-row j .nv) 1 (n .2))
 
   done-leaves : (c : Command) (n : Memory) → named c (at-row j) ≡ false → done c m ≡ stored n → entry-of (at-row j) (n .values) ≡ entry-of (at-row j) (m .values)
   unfolding done block-taken
   done-leaves DeviceReset n d e = absurd (let z : _≡_ {A = ℕ} 0 1 = cc in omega arith)
   done-leaves ExceptionReset n d e =
       rw (← only-one _ n e)
-      (status-leaves ExceptionReset 0 (exceptions-cleared (m .values)) (cleared-length (m .values) long) j there d ∙ cleared-leaves (m .values) long j there d)
-  done-leaves StoreParameters n d e = rw (← only-one _ n e) (status-leaves StoreParameters _ (m .values) long j there d)
+      (status-leaves ExceptionReset 0 (exceptions-cleared (m .values)) (cleared-length (m .values) long) j there (not-own ExceptionReset d) ∙ cleared-leaves (m .values) long j there d)
+  done-leaves StoreParameters n d e = rw (← only-one _ n e) (status-leaves StoreParameters _ (m .values) long j there (not-own StoreParameters d))
   done-leaves LoadParameters n d e =
       rw (← only-one _ n e)
-      (status-leaves LoadParameters _ (block-taken (m .block) (m .values)) (taken-length (m .block) (m .values) long) j there d
+      (status-leaves LoadParameters _ (block-taken (m .block) (m .values)) (taken-length (m .block) (m .values) long) j there (not-own LoadParameters d)
       ∙ heeding-leaves (loaded (m .block) (m .values)) (length-loaded (m .block) (m .values) long) (loadable (m .block)) j there (rw (not-loaded d .0) (and-false (loadable (m .block))))
       ∙ load-other (m .block) (m .values) long j there (not-loaded d .1))
 
@@ -243,4 +268,4 @@ module _ (m : Memory) (long : length (m .values) ≡ 1024) (j : ℕ) (there : j 
     where
       go : (b : Bool) → cond b (done c m) (stored (with-values m (with-status c 2 (m .values)))) ≡ stored n → entry-of (at-row j) (n .values) ≡ entry-of (at-row j) (m .values)
       go true e = done-leaves c n d e
-      go false e = rw (← only-one _ n e) (status-leaves c 2 (m .values) long j there d)
+      go false e = rw (← only-one _ n e) (status-leaves c 2 (m .values) long j there (not-own c d))

@@ -14,7 +14,7 @@ use Rattle.table.specs.Find.{Found, find-row}
 use Rattle.table.specs.Row.{smallest, largest}
 use Rattle.limits.specs.Limits.{verdict-code}
 use Rattle.gauge.specs.Memory.{Memory, Store}
-use Rattle.gauge.specs.Checks.{Asked, asked, asked-key, row-asked, sent, least, most, Test, no-such-index, no-such-subindex, only-written, only-read, announced-long, announced-short, sent-long, sent-short, under-lock, no-number, too-high, too-low, code-of, says-above, says-below, fails, key-order, length-order, last-order, write-order, refused-by, unless-refused, code-told}
+use Rattle.gauge.specs.Checks.{Asked, asked, asked-key, row-asked, sent, least, most, Test, no-such-index, no-such-subindex, only-written, only-read, announced-long, announced-short, sent-long, sent-short, under-lock, no-number, too-high, too-low, crossed-1, crossed-2, code-of, says-above, says-below, fails, key-order, length-order, last-order, write-order, refused-by, unless-refused, code-told}
 use Rattle.gauge.specs.Whole.{read-whole, sizes-checked, write-sizes, effect, write-by, with-trips, commit-whole, write-checked}
 
 -- ---- the first that fails
@@ -42,6 +42,8 @@ coded under-lock e = omega arith
 coded no-number e = omega arith
 coded too-high e = omega arith
 coded too-low e = omega arith
+coded crossed-1 e = omega arith
+coded crossed-2 e = omega arith
 
 -- and only where nothing refuses is 0 told
 pub none-told : (o : Option Test) → code-told o ≡ 0 → o ≡ none
@@ -146,7 +148,7 @@ module _ (K S : Type 0) (index sub : K → ℕ) (sampled : Store → S → Store
       abbrev done : Outcome Memory
       done = effect (row-asked all-asked) (sent all-asked) (g .memory)
 
-      -- a key that passes leaves the lock and the limits
+      -- a key that passes leaves the last checks
       committed : refused-by (asked-key found) key-order ≡ none → commit-whole g (index k) (sub k) (sent all-asked) ≡ with-trips g (unless-refused (refused-by all-asked last-order) declined done)
       unfolding commit-whole write-by unless-refused refused-by key-order last-order fails counted
       committed e = ap (with-trips g) (parted (asked found unsaid (sent all-asked) (g .memory .values)) key-order last-order declined done ∙ rw e)

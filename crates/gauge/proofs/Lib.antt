@@ -1,8 +1,12 @@
 pub mod InOrder
 pub mod ByGate
+pub mod Flags
+pub mod RowTests
+pub mod WrittenLaws
+pub mod CrossingLaws
 pub mod CommitLaws
-pub mod MaskLaws
 pub mod Spared
 pub mod SummaryLaws
 pub mod ValueLaws
 pub mod GaugeLaws
+pub mod StraightLaws

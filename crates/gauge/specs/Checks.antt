@@ -11,12 +11,13 @@ use Rattle.order.specs.Gauge.{too-long, too-short, counted}
 use Rattle.table.specs.Row.{Row, smallest, largest, RO, WO, CARD}
 use Rattle.table.specs.Rows.{at-row}
 use Rattle.table.specs.Find.{Found, At, NoIndex, NoSub, row-number}
-use Rattle.table.specs.Codes.{index-absent, subindex-absent, write-only, read-only, lock-shut}
+use Rattle.table.specs.Codes.{index-absent, subindex-absent, write-only, read-only, lock-shut, left-crossed}
 use Rattle.gate.specs.Lock.{locked}
 use Rattle.limits.specs.Limits.{verdict-code, row-verdict}
 use Rattle.limits.specs.declared.Verdict.{Verdict}
 use Rattle.limits.specs.declared.Verdict.the-variants.{NotANumber, Above, Below}
 use Rattle.card.specs.Card.{card-verdict}
+use Rattle.gauge.specs.Written.{crosses-1, crosses-2}
 
 -- ---- what is asked
 
@@ -72,6 +73,8 @@ pub data Test : Type 0 where
   no-number : Test
   too-high : Test
   too-low : Test
+  crossed-1 : Test
+  crossed-2 : Test
 
 unfoldable pub code-of : Test → ℕ
 code-of no-such-index = index-absent
@@ -86,6 +89,8 @@ code-of under-lock = lock-shut
 code-of no-number = verdict-code NotANumber
 code-of too-high = verdict-code Above
 code-of too-low = verdict-code Below
+code-of crossed-1 = left-crossed
+code-of crossed-2 = left-crossed
 
 unfoldable pub is-no-index : Found → Bool
 is-no-index (At r) = false
@@ -128,6 +133,8 @@ fails under-lock a = locked (row-asked a) (a .values)
 fails no-number a = judged-as NotANumber a
 fails too-high a = judged-as Above a
 fails too-low a = judged-as Below a
+fails crossed-1 a = crosses-1 (row-asked a) (a .values) (sent a)
+fails crossed-2 a = crosses-2 (row-asked a) (a .values) (sent a)
 
 -- ---- the order
 
@@ -143,9 +150,9 @@ key-order = no-such-index ∷ no-such-subindex ∷ only-read ∷ []
 unfoldable pub length-order : List Test
 length-order = announced-long ∷ announced-short ∷ sent-long ∷ sent-short ∷ []
 
--- the lock and the limits, at the last message (R7.6 to R7.8)
+-- the lock, the limits and the trip points, at the last message (R7.6 to R7.8)
 unfoldable pub last-order : List Test
-last-order = under-lock ∷ no-number ∷ too-high ∷ too-low ∷ []
+last-order = under-lock ∷ no-number ∷ too-high ∷ too-low ∷ crossed-1 ∷ crossed-2 ∷ []
 
 unfoldable pub write-order : List Test
 write-order = key-order ++ (length-order ++ last-order)

@@ -6,25 +6,20 @@ use lib.Dec.{eqb}
 use Rattle.order.specs.Talk.{unsaid, Read, value, denied, Sizes, sizes, closed, Outcome, stored, restarted, declined}
 use Rattle.table.specs.Row.{Row, smallest, largest, CARD, COMMAND}
 use Rattle.table.specs.Find.{find-row}
-use Rattle.table.specs.Places.{is-mask}
-use Rattle.entry.specs.Entry.{entry-of, with-entry}
-use Rattle.card.specs.Card.{card-of, with-card}
+use Rattle.entry.specs.Entry.{entry-of}
+use Rattle.card.specs.Card.{card-of}
 use Rattle.trip.specs.Trip.{all-off}
 use Rattle.command.specs.Words.{command-at, read-word}
 use Rattle.gauge.specs.Memory.{Memory, Store, with-values}
-use Rattle.gauge.specs.Masks.{heeding}
+use Rattle.gauge.specs.Written.{with-value}
 use Rattle.gauge.specs.Commands.{obeyed}
 use Rattle.gauge.specs.Checks.{Asked, asked, asked-key, asked-last, row-asked, sent, Test, read-order, key-order, last-order, write-order, refused-by, unless-refused}
 
--- by type: the card is a view, a command word has its printed value, all else is stored
-unfoldable pub by-type : {A : Type 0} → Row → A → A → A → A
-by-type r card command other = cond (eqb (r .kind) CARD) card (cond (eqb (r .kind) COMMAND) command other)
-
 -- ---- reading
 
--- the entry's value as it is now
+-- the entry's value as it is now: the card is a view, a command word has its printed value, all else is stored
 unfoldable pub value-of : Row → List ℕ → List ℕ
-value-of r values = by-type r (card-of values) (read-word (command-at (r .index))) (entry-of r values)
+value-of r values = cond (eqb (r .kind) CARD) (card-of values) (cond (eqb (r .kind) COMMAND) (read-word (command-at (r .index))) (entry-of r values))
 
 unfoldable pub read-checked : Store → Asked → Read
 read-checked g a = unless-refused (refused-by a read-order) denied (value (value-of (row-asked a) (g .memory .values)))
@@ -41,12 +36,9 @@ sizes-checked a = unless-refused (refused-by a key-order) closed (sizes (smalles
 unfoldable pub write-sizes : ℕ → ℕ → Sizes
 write-sizes index sub = sizes-checked (asked-key (find-row index sub))
 
--- what an accepted write does; a mask acts at once (R11.4)
+-- what an accepted write does
 unfoldable pub effect : Row → List ℕ → Memory → Outcome Memory
-effect r bytes m =
-    by-type r (stored (with-values m (with-card (m .values) bytes)))
-    (obeyed (command-at (r .index)) bytes m)
-    (stored (with-values m (heeding (is-mask r) (with-entry r (m .values) bytes))))
+effect r bytes m = cond (eqb (r .kind) COMMAND) (obeyed (command-at (r .index)) bytes m) (stored (with-values m (with-value r (m .values) bytes)))
 
 -- a write that is refused by the first of some tests, or done
 unfoldable pub write-by : List Test → Asked → Memory → Outcome Memory

@@ -1,12 +1,16 @@
-// A whole write of a row: lock, limits, and what an accepted write does.
+// A whole write of a row: lock, limits, trip points, and what an accepted write does.
+use crate::crossing;
 use crate::masks;
+use crate::places;
 use crate::power;
 use command::exception;
 use command::word;
 use command::word::Command;
 use gate::lock;
+use limits::Verdict;
 use table::code;
 use table::kind;
+use table::place;
 ghost use mathlib.Core.Path.{_≡_};
 ghost use Prim.Native.Nat.{_<_};
 ghost use lib.ListN.{length};
@@ -15,7 +19,7 @@ ghost use Rattle.table.specs.Rows.{row-count, at-row};
 ghost use Rattle.gauge.specs.Memory.{memory-of};
 ghost use Rattle.gauge.specs.Commands.{status-by, done, obeyed};
 ghost use Rattle.gauge.specs.Endings.{left, left-by};
-ghost use Rattle.gauge.specs.Checks.{asked-last, last-order, refused-by, code-told};
+ghost use Rattle.gauge.specs.Checks.{asked-last, verdict-of, last-order, refused-by, code-told};
 ghost use Rattle.gauge.specs.Whole.{effect, commit-row};
 
 // How a write ends; after a restart the lines' transfers are dropped and the trips are off.
@@ -71,6 +75,17 @@ fn obey(values: &mut [u8], block: &mut [u8], command: Command, bytes: &[u8]) -> 
     Ending::Accepted
 }
 
+// The value against the limits.
+fn judge(row: usize, kind: u8, bytes: &[u8]) -> Verdict
+    requires { ⌜ (row < row-count) × (kind ≡ at-row row .kind) × Allowed (at-row row) (length (now bytes)) ⌝ }
+    ensures { λ r. ⌜ r ≡ verdict-of (at-row row) (now (bytes .entry)) ⌝ }
+{
+    if kind == kind::CARD {
+        return enter::judge(bytes);
+    }
+    limits::judge(row, kind, bytes)
+}
+
 // The code of the first of the last checks that refuses, 0 where none does.
 fn refusal(values: &[u8], row: usize, kind: u8, bytes: &[u8]) -> u32
     requires { ⌜ (length (now values) ≡ 1024) × (row < row-count) × (kind ≡ at-row row .kind) × Allowed (at-row row) (length (now bytes)) ⌝ }
@@ -79,10 +94,14 @@ fn refusal(values: &[u8], row: usize, kind: u8, bytes: &[u8]) -> u32
     if lock::refuses(values, row, kind) {
         return code::LOCK_SHUT;
     }
-    if kind == kind::CARD {
-        return limits::code_of(enter::judge(bytes));
+    let code = limits::code_of(judge(row, kind, bytes));
+    if code != 0 {
+        return code;
     }
-    limits::code_of(limits::judge(row, kind, bytes))
+    if crossing::leaves_crossed(values, row, kind, bytes) {
+        return code::LEFT_CROSSED;
+    }
+    0
 }
 
 // What an accepted write does.
@@ -97,8 +116,9 @@ fn put(values: &mut [u8], block: &mut [u8], row: usize, kind: u8, bytes: &[u8]) 
     if kind == kind::COMMAND {
         return obey(values, block, word::command_at(row), bytes);
     }
-    let place = entry::store_entry(values, row, bytes);
-    masks::heed(values, masks::stand_at(place));
+    let at = entry::store_entry(values, row, bytes);
+    let came = places::is_among(place::MASKS, place::MASKS_SIZE, at);
+    masks::heed(values, came);
     Ending::Accepted
 }
 

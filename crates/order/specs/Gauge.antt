@@ -8,7 +8,7 @@ use lib.ListN.{length, take}
 use Rattle.order.specs.Talk.{Said, announced, unsaid, own, Read, value, denied, Sizes, sizes, closed, Outcome, stored, restarted, declined, Result, gave, yes!, code, taken}
 
 -- A gauge, entry by entry; `name-of` is what answers tell of a key. `read-whole` judges index, subindex and access and gives the value. `write-sizes` is
--- what the table says of writing the entry; it has no store among its arguments. `commit` is given bytes of an allowed length: lock, limits, then the write with its
+-- what the table says of writing the entry; it has no store among its arguments. `commit` is given bytes of an allowed length: the last checks, then the write with its
 -- effects. `sampled` is the store after a sample
 pub record Gauge : Type 1 where
   pub Store : Type 0
@@ -56,7 +56,7 @@ say none = unsaid
 say (some n) = announced n
 
 module _ (P : Gauge) where
-  -- lengths first, then lock and limits (R7.5 to R7.7)
+  -- lengths first, then the last checks (R7.5 to R7.7)
   unfoldable pub judged : P .Store → P .Key → ℕ → ℕ → List ℕ → Outcome (P .Store)
   unfolding by-length
   judged g k low high bytes = by-length low high (length bytes) declined (P .commit g k bytes)

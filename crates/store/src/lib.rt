@@ -9,6 +9,7 @@ ghost use Prim.Native.Nat.{_+_, _-_, _^_, _≤_, _<_};
 ghost use lib.ListN.{length, take, drop, replicate};
 ghost use Rattle.bits.specs.Bits.{bits, msb};
 ghost use Rattle.limits.specs.Limits.{number-len};
+ghost use Rattle.crossed.specs.Crossed.{straight};
 ghost use Rattle.table.specs.Row.{REAL};
 ghost use Rattle.table.specs.Rows.{nv-end};
 ghost use Rattle.wire.specs.Little.{number};
@@ -98,6 +99,7 @@ fn write_block(fresh: &[u8; FRESH], block: &mut [u8])
     wire::copy_at(block, 0, fresh, 0, FRESH);
 }
 
+// Of values with no trip point crossed.
 fn store_by(
     kinds: &[u8],
     ats: &[u16],
@@ -107,7 +109,7 @@ fn store_by(
     values: &[u8],
     block: &mut [u8],
 ) -> bool
-    requires { ⌜ Fields (now kinds) (now ats) × Places (now places) × Limits (now lows) (now highs) × (length (now values) ≡ 1024) × (length (now block) ≡ 512) ⌝ }
+    requires { ⌜ Fields (now kinds) (now ats) × Places (now places) × Limits (now lows) (now highs) × ((length (now values) ≡ 1024) × (straight (now values) ≡ true)) × (length (now block) ≡ 512) ⌝ }
     ensures { λ r. ⌜ (r ≡ storable (now (values .entry))) × (now (block .exit) ≡ stored-block (now (values .entry)) (now (block .entry))) ⌝ }
 {
     let mut fresh = [0u8; FRESH];
@@ -119,18 +121,21 @@ fn store_by(
     true
 }
 
-// Writes the block of the values, or nothing where an NV value is outside its limits.
+// Writes the block of the values, or nothing where an NV value is outside its limits or a trip point is crossed.
 pub fn store(values: &[u8], block: &mut [u8]) -> bool
     requires { ⌜ (length (now values) ≡ 1024) × (length (now block) ≡ 512) ⌝ }
     ensures { λ r. ⌜ (r ≡ storable (now (values .entry))) × (now (block .exit) ≡ stored-block (now (values .entry)) (now (block .entry))) ⌝ }
 {
-    store_by(
-        &columns::NV_KIND,
-        &columns::NV_AT,
-        &columns::NV_PLACE,
-        &columns::NV_LOW,
-        &columns::NV_HIGH,
-        values,
-        block,
-    )
+    if crossed::is_straight(values) {
+        return store_by(
+            &columns::NV_KIND,
+            &columns::NV_AT,
+            &columns::NV_PLACE,
+            &columns::NV_LOW,
+            &columns::NV_HIGH,
+            values,
+            block,
+        );
+    }
+    false
 }

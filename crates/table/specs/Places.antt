@@ -1,9 +1,9 @@
 -- RULE: the places in the values that have names. tools/table.py writes this file; that they are the table's is computed in
--- proofs/Placed.antt. Assumes nothing.
+-- proofs/Placed.antt, and that a row is told by such a span in the crate gauge. Assumes nothing.
 use Prim.Native.Nat.{ℕ, _+_}
 use mathlib.Core.Bool.{Bool}
 use mathlib.Core.List.{List, [], _∷_}
-use lib.Dec.{leb}
+use lib.Dec.{leb, eqb}
 use Rattle.table.specs.Row.{Row}
 use Rattle.table.specs.Walk.{both}
 
@@ -135,6 +135,14 @@ latched-size = 33
 abbrev pub masks-size : ℕ
 masks-size = 32
 
+-- the bytes of 800E, which stand behind each other
+abbrev pub settings-1-size : ℕ
+settings-1-size = 38
+
+-- the bytes of 800F, which stand behind each other
+abbrev pub settings-2-size : ℕ
+settings-2-size = 38
+
 -- an entry, its place and its length
 pub record Placed : Type 0 where
   pub index : ℕ
@@ -191,10 +199,18 @@ named-places =
     placed 0x800F 0x18 (settings-2 + low-hysteresis) 4 ∷
     []
 
--- what an exception reset clears: every subindex of these indices
+-- what an exception reset clears: every subindex of F390 to F398
 unfoldable pub latched : Row → Bool
 latched r = both (leb 0xF390 (r .index)) (leb (r .index) 0xF398)
 
--- the masks of the detail words: every subindex of these indices
+-- the masks of the detail words: every subindex of F3A1 to F3A8
 unfoldable pub is-mask : Row → Bool
 is-mask r = both (leb 0xF3A1 (r .index)) (leb (r .index) 0xF3A8)
+
+-- the settings of trip point 1: every subindex of 800E
+unfoldable pub of-point-1 : Row → Bool
+of-point-1 r = eqb (r .index) 0x800E
+
+-- the settings of trip point 2: every subindex of 800F
+unfoldable pub of-point-2 : Row → Bool
+of-point-2 r = eqb (r .index) 0x800F

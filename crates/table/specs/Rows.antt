@@ -155,3 +155,27 @@ nv-count = 38
 
 abbrev pub nv-end : ℕ
 nv-end = 1214
+
+-- 800E:01, a number among the NV rows
+abbrev pub nv-point-1 : ℕ
+nv-point-1 = 5
+
+-- 800F:01, a number among the NV rows
+abbrev pub nv-point-2 : ℕ
+nv-point-2 = 16
+
+-- 800E:01 and 800F:01, so many NV rows behind subindex 01
+abbrev pub nv-high-enable : ℕ
+nv-high-enable = 0
+
+-- 800E:02 and 800F:02, so many NV rows behind subindex 01
+abbrev pub nv-low-enable : ℕ
+nv-low-enable = 1
+
+-- 800E:11 and 800F:11, so many NV rows behind subindex 01
+abbrev pub nv-high-level : ℕ
+nv-high-level = 2
+
+-- 800E:14 and 800F:14, so many NV rows behind subindex 01
+abbrev pub nv-low-level : ℕ
+nv-low-level = 5

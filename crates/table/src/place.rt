@@ -92,3 +92,9 @@ pub const LATCHED_SIZE: usize = 33;
 
 // the bytes of F3A1 to F3A8, which stand behind each other
 pub const MASKS_SIZE: usize = 32;
+
+// the bytes of 800E, which stand behind each other
+pub const SETTINGS_1_SIZE: usize = 38;
+
+// the bytes of 800F, which stand behind each other
+pub const SETTINGS_2_SIZE: usize = 38;

@@ -141,13 +141,14 @@ fn sources() {
     loads_with(b"limit: 800E:12 is 000E1100", 42, 1, 0x00, false);
 }
 
-// A BOOL is one bit, and no bit is outside its limits: 264, 265, 306, 307, 596 and 597.
+// A BOOL is one bit, and no bit is outside its limits: 264, 265, 306, 307, 596 and 597. The high levels are 1500, so that no trip point is
+// crossed.
 fn bools() {
     let mut block = default_block();
     put_fours(
         &mut block,
         &[33, 38, 74],
-        &[0xC0400000, 0x30000000, 0x0C000000],
+        &[0xC0400000, 0x344BB800, 0x0D12EE00],
     );
     loads(b"limit: every BOOL is 1", &block, true);
 }
@@ -160,4 +161,45 @@ pub fn limits() {
     currents();
     sources();
     bools();
+}
+
+// ---- crossed trip points
+
+// The enables of trip point 1 are 20 and 10 in byte 38; its levels are zero.
+fn sides() {
+    loads_with(b"crossed: both sides, both levels 0", 38, 1, 0x30, false);
+    loads_with(b"crossed: not by the high side alone", 38, 1, 0x20, true);
+    loads_with(b"crossed: not by the low side alone", 38, 1, 0x10, true);
+}
+
+// Of trip point 2 they are 08 and 04 in byte 74. 800F:11 from two bits before its end on is 1500, 44BB8000: 01 00010010 11101110 00000000 000000,
+// and 800F:12 begins with 10.
+fn second_point() {
+    loads_with(b"crossed: the second point", 74, 1, 0x0C, false);
+    loads_with(
+        b"crossed: not the second, 0 below 1500",
+        74,
+        5,
+        0x0D12EE0002,
+        true,
+    );
+}
+
+// Both sides of trip point 1, with 800E:11 from the middle of byte 38 and 800E:14 from that of byte 50 on: 1500 is 44BB8000, 1 is 3F800000.
+fn loads_levels(name: &[u8], upper: u64, lower: u64, good: bool) {
+    let mut block = default_block();
+    put_fours(&mut block, &[38, 50], &[upper, lower]);
+    loads(name, &block, good);
+}
+
+fn both_levels() {
+    loads_levels(b"crossed: 1500 over 1", 0x33F80000, 0x044BB800, false);
+    loads_levels(b"crossed: 1500 and 1500", 0x344BB800, 0x044BB800, false);
+    loads_levels(b"crossed: not 1 below 1500", 0x344BB800, 0x03F80000, true);
+}
+
+pub fn crossed() {
+    sides();
+    second_point();
+    both_levels();
 }

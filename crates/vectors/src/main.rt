@@ -15,6 +15,7 @@ fn main() {
     blocks::headers();
     blocks::rests();
     blocks::limits();
+    blocks::crossed();
     stores::stored();
     stores::refused();
     stores::back();

@@ -52,6 +52,19 @@ fn other_values() -> [u8; 1024] {
     values
 }
 
+// Both sides of trip point 1 at 258, and 800E:11 at 260 is 1500, 44BB8000; in the block from byte 38 on.
+fn straight_values() -> [u8; 1024] {
+    let mut values = default_values();
+    put_fours(&mut values, &[258, 260], &[0x01010000, 0x0080BB44]);
+    values
+}
+
+fn straight_block() -> [u8; 512] {
+    let mut block = default_block();
+    put_fours(&mut block, &[38], &[0x344BB800]);
+    block
+}
+
 fn stores_some() {
     stores(
         b"store: label, BOOL, REAL and a last entry",
@@ -68,15 +81,24 @@ fn stores_others() {
     );
 }
 
+fn stores_straight() {
+    stores(
+        b"store: both sides on, 0 below 1500",
+        &straight_values(),
+        &straight_block(),
+    );
+}
+
 pub fn stored() {
     stores(b"store: the defaults", &default_values(), &default_block());
     stores_some();
     stores_others();
+    stores_straight();
 }
 
 // ---- refusing
 
-// A lent NV value outside its limits: nothing is written.
+// A lent NV value outside its limits, or a crossed trip point: nothing is written.
 fn refuses(name: &[u8], values: &[u8; 1024]) {
     let mut block = [0xA5u8; 512];
     let taken = store::store(values, &mut block);
@@ -108,9 +130,23 @@ fn refused_last() {
     refuses_lent(b"store: REAL not a number", 254, 4, 0x7FC00000);
 }
 
+// Both sides of trip point 1 at 258, of trip point 2 at 296, where all levels are 0. At 272 stands 800E:14: 1.5 is 3FC00000.
+fn crossed_values() -> [u8; 1024] {
+    let mut values = straight_values();
+    put_fours(&mut values, &[260, 272], &[0x0000803F, 0x0000C03F]);
+    values
+}
+
+fn refused_crossed() {
+    refuses_lent(b"store: both sides on, both levels 0", 258, 2, 0x0101);
+    refuses_lent(b"store: the same of the second point", 296, 2, 0x0101);
+    refuses(b"store: both sides on, 1.5 over 1", &crossed_values());
+}
+
 pub fn refused() {
     refused_first();
     refused_last();
+    refused_crossed();
 }
 
 // ---- there and back

@@ -1,7 +1,8 @@
 //! The trip card: 264 bits, a view of the trip entries.
 
 use super::code;
-use super::fault::{Fault, Mutant::*};
+use super::crossed::{is_crossed, Point};
+use super::fault::{Fault, Mutant, Mutant::*};
 use super::limits;
 use super::table::place;
 use super::Values;
@@ -47,6 +48,22 @@ fn fields(card: &[u8; LENGTH]) -> [u32; 8] {
     let first = |n: usize| be32(card, 4 * n) << 6 | card[4 * n + 4] as u32 >> 2;
     let second = |n: usize| be32(card, 17 + 4 * n);
     [first(0), first(1), first(2), first(3), second(0), second(1), second(2), second(3)]
+}
+
+/// The enable bits in the order of the sides.
+#[inline]
+fn enables(card: &[u8; LENGTH]) -> [u8; 4] {
+    [card[0] >> 3 & 1, card[0] >> 2 & 1, card[16] >> 1 & 1, card[16] & 1]
+}
+
+/// Trip points 1 and 2 of a card.
+#[inline]
+pub fn points(card: &[u8; LENGTH]) -> [Point; 2] {
+    let (enables, fields) = (enables(card), fields(card));
+    [0, 1].map(|n| Point {
+        enables: [0, 1].map(|side| enables[2 * n + side]),
+        reals: [0, 1, 2, 3].map(|field| fields[4 * n + field]),
+    })
 }
 
 #[inline]
@@ -103,17 +120,26 @@ pub fn pack<F: Fault>(f: F, values: &Values) -> [u8; LENGTH] {
     card
 }
 
-/// The first bad field decides.
+/// Layout and limits; the first bad field decides.
 pub fn judge<F: Fault>(f: F, card: &[u8; LENGTH]) -> Result<(), u32> {
+    let crossed_too_soon =
+        |wrong: Mutant, count: usize| f.on(wrong) && points(card)[..count].iter().any(|point| is_crossed(f, point));
     let mut found = Ok(());
     if card[0] >> 4 != 1 && !f.on(CardLayoutFree) {
-        found = Err(if f.on(CardLayoutIsAbove) { code::ABOVE } else { code::OUT_OF_RANGE });
+        found = Err(match () {
+            _ if crossed_too_soon(CardCrossedBeforeLayout, 2) => code::CROSSED,
+            _ if f.on(CardLayoutIsAbove) => code::ABOVE,
+            _ => code::OUT_OF_RANGE,
+        });
         if !f.on(CardLastFieldDecides) {
             return found;
         }
     }
     let fields = fields(card);
     for n in 0..8 {
+        if n == 0 && crossed_too_soon(CardCrossedBeforeLimits, 2) || n == 4 && crossed_too_soon(CardCrossedByPoint, 1) {
+            return Err(code::CROSSED);
+        }
         let n = if f.on(CardLevelsFirst) { [0, 2, 1, 3, 4, 6, 5, 7][n] } else { n };
         let judged = limits::real(f, fields[n], 0.0, HIGHEST);
         if judged.is_err() {
@@ -127,8 +153,7 @@ pub fn judge<F: Fault>(f: F, card: &[u8; LENGTH]) -> Result<(), u32> {
 }
 
 pub fn unpack<F: Fault>(f: F, card: &[u8; LENGTH], values: &mut Values) {
-    let enables = [card[0] >> 3 & 1, card[0] >> 2 & 1, card[16] >> 1 & 1, card[16] & 1];
-    for (n, enable) in enables.into_iter().enumerate() {
+    for (n, enable) in enables(card).into_iter().enumerate() {
         values[SIDES[order(f, n)].enable] = enable;
     }
     for (n, field) in fields(card).into_iter().enumerate() {

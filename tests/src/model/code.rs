@@ -11,6 +11,7 @@ pub const NO_SUBINDEX: u32 = 0x0609_0011;
 pub const OUT_OF_RANGE: u32 = 0x0609_0030;
 pub const ABOVE: u32 = 0x0609_0031;
 pub const BELOW: u32 = 0x0609_0032;
+pub const CROSSED: u32 = 0x0609_0036;
 pub const LOCKED: u32 = 0x0800_0022;
 
 pub const DONE: u32 = 0;

@@ -2,6 +2,7 @@
 
 use super::card;
 use super::code;
+use super::crossed;
 use super::exception;
 use super::fault::{Fault, Mutant::*};
 use super::limits;
@@ -79,7 +80,60 @@ fn judge<F: Fault>(f: F, row: &Row, bytes: &[u8]) -> Result<(), u32> {
     }
 }
 
-/// Lock and limits, then the write; `bytes` has the row's length.
+/// Lock, limits, then crossed trip points.
+fn judge_all<F: Fault>(f: F, row: &Row, bytes: &[u8], values: &Values, unlocked: bool) -> Result<(), u32> {
+    if f.on(CrossedBeforeLock) && judge(f, row, bytes).is_ok() {
+        crossed::judge(f, row, bytes, values)?;
+    }
+    if f.on(LimitsBeforeLock) {
+        judge(f, row, bytes)?;
+    }
+    if !unlocked {
+        judge_lock(f, row, values)?;
+    }
+    if f.on(CrossedBeforeLimits) && row.kind != Kind::Card {
+        crossed::judge(f, row, bytes, values)?;
+    }
+    judge(f, row, bytes)?;
+    crossed::judge(f, row, bytes, values)
+}
+
+/// What wrong variants leave behind of a write that is refused.
+fn leave_behind<F: Fault>(f: F, row: &Row, bytes: &[u8], values: &mut Values, code: u32) {
+    let card = <&[u8; card::LENGTH]>::try_from(bytes).ok().filter(|_| row.kind == Kind::Card);
+    match (code, card) {
+        (code::CROSSED, _) if f.on(CrossedStored) => put(f, row, bytes, values),
+        (code::CROSSED, Some(card)) if f.on(CrossedCardHalfStored) => {
+            let before = *values;
+            card::unpack(f, card, values);
+            for (n, point) in card::points(card).iter().enumerate() {
+                if crossed::is_crossed(f, point) {
+                    values[crossed::span(n)].copy_from_slice(&before[crossed::span(n)]);
+                }
+            }
+        }
+        (code::OUT_OF_RANGE | code::ABOVE | code::BELOW, Some(card)) if f.on(CardHalfStored) && card[0] >> 4 == 1 => {
+            values[card::SIDES[0].enable] = card[0] >> 3 & 1;
+        }
+        _ => (),
+    }
+}
+
+/// Stores a card or an entry that has a place.
+fn put<F: Fault>(f: F, row: &Row, bytes: &[u8], values: &mut Values) {
+    if row.kind == Kind::Card {
+        if let Ok(bytes) = bytes.try_into() {
+            card::unpack(f, bytes, values);
+        }
+        return;
+    }
+    values[row.place as usize..row.place as usize + bytes.len()].copy_from_slice(bytes);
+    if exception::acts(f, row) {
+        exception::summarize(f, values);
+    }
+}
+
+/// Lock, limits and crossed trip points, then the write; `bytes` has the row's length.
 pub fn write<F: Fault>(
     f: F,
     row: &Row,
@@ -88,36 +142,31 @@ pub fn write<F: Fault>(
     block: &mut Block,
     unlocked: bool,
 ) -> Result<After, u32> {
-    if f.on(LimitsBeforeLock) {
-        judge(f, row, bytes)?;
-    }
-    if !unlocked {
-        judge_lock(f, row, values)?;
-    }
-    if let Err(code) = judge(f, row, bytes) {
-        if f.on(CardHalfStored) && row.kind == Kind::Card && bytes[0] >> 4 == 1 {
-            values[card::SIDES[0].enable] = bytes[0] >> 3 & 1;
-        }
+    if let Err(code) = judge_all(f, row, bytes, values, unlocked) {
+        leave_behind(f, row, bytes, values, code);
         return Err(code);
     }
     if f.on(StoresNothing) {
         return Ok(After::Nothing);
     }
-    match row.kind {
-        Kind::Card => {
-            if let Ok(bytes) = bytes.try_into() {
-                card::unpack(f, bytes, values);
-            }
-        }
-        Kind::Command => return command(f, row, bytes, values, block),
-        _ => {
-            values[row.place as usize..row.place as usize + bytes.len()].copy_from_slice(bytes);
-            if exception::acts(f, row) {
-                exception::summarize(f, values);
-            }
-        }
+    if row.kind == Kind::Command {
+        return if refuses_crossed(f, row, bytes, values, block) {
+            Err(code::CROSSED)
+        } else {
+            command(f, row, bytes, values, block)
+        };
     }
+    put(f, row, bytes, values);
     Ok(After::Nothing)
+}
+
+/// The commands that wrong variants refuse for crossed trip points.
+fn refuses_crossed<F: Fault>(f: F, row: &Row, word: &[u8], values: &Values, block: &Block) -> bool {
+    match row.index() {
+        STORE => f.on(CrossedStoreAborted) && word == b"save" && crossed::any(f, values),
+        LOAD => f.on(CrossedLoadAborted) && word == b"load" && saved::is_only_crossed(f, block),
+        _ => false,
+    }
 }
 
 fn command<F: Fault>(f: F, row: &Row, word: &[u8], values: &mut Values, block: &mut Block) -> Result<After, u32> {
@@ -163,12 +212,25 @@ const _: () = {
     assert!(place(LOAD, 3) == place(LOAD, 2) + 1);
 };
 
+/// Takes the block as a load does: sound, as power-up takes it.
+fn take<F: Fault>(f: F, block: &Block, values: &mut Values) -> bool {
+    if f.on(LoadJudgedBefore) && crossed::any(f, values) {
+        return false;
+    }
+    let passes = f.on(LoadTakesCrossed) || f.on(CrossedLoadTaken) || f.on(LoadJudgedBefore);
+    if passes && saved::is_only_crossed(f, block) {
+        saved::take(f, block, values);
+        return !f.on(CrossedLoadTaken);
+    }
+    saved::load(f, block, values)
+}
+
 /// A load that takes the block takes its masks, so it works the summary byte out. Power-up need not: its active word is zero.
 fn load<F: Fault>(f: F, block: &Block, values: &mut Values) -> bool {
     if f.on(LoadActsFirst) && !saved::is_faulty(f, block) {
         exception::summarize(f, values);
     }
-    let taken = saved::load(f, block, values);
+    let taken = take(f, block, values);
     let acts = taken && !f.on(LoadKeepsSummary) && !f.on(LoadActsFirst);
     if acts || f.on(FaultyLoadActs) {
         exception::summarize(f, values);

@@ -3,6 +3,7 @@
 
 mod card;
 pub mod code;
+mod crossed;
 mod entry;
 mod exception;
 pub mod fault;
@@ -35,6 +36,7 @@ fn restart<F: Fault>(f: F, values: &mut Values, block: &Block, state: &mut State
         values.copy_from_slice(&table::DEFAULTS);
     }
     saved::load(f, block, values);
+    saved::take_crossed(f, block, values);
     if f.on(PowerUpClearsSpare) {
         state.fill(0);
     }

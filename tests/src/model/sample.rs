@@ -1,6 +1,7 @@
 //! Samples and trips, and the cyclic image.
 
 use super::card::{bits32, set32, SIDES};
+use super::crossed::{is_crossed, Point};
 use super::exception;
 use super::fault::{Fault, Mutant::*};
 use super::table::place;
@@ -22,6 +23,9 @@ fn side<F: Fault>(f: F, values: &Values, n: usize, p: f32, on: bool) -> bool {
     let enable = values[side.enable];
     if if f.on(LentEnableBit) { enable & 1 == 0 } else { enable == 0 } {
         return f.on(DisabledSideStays) && on;
+    }
+    if f.on(CrossedSidesOff) && is_crossed(f, &Point::of(values, n / 2)) {
+        return false;
     }
     let level = f32::from_bits(bits32(values, side.level));
     let hysteresis = f32::from_bits(bits32(values, side.hysteresis));

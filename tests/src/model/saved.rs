@@ -3,6 +3,8 @@
 //! The fields are sorted at compile time by their width, so that loading and storing are three short loops, and only those that a
 //! value can break are held to limits.
 
+use super::card::{bits32, set32, SIDES};
+use super::crossed::{self, is_crossed, Point};
 use super::fault::{Fault, Mutant::*};
 use super::limits;
 use super::table::{bits, Field, Kind, Row, DEFAULTS, FIELDS, FIELDS_END};
@@ -39,13 +41,16 @@ const fn sort(row: &Row) -> u8 {
     }
 }
 
+const fn slot(field: &Field) -> Slot {
+    Slot { at: (field.bit / 8) as u16, shift: (field.bit % 8) as u8, place: field.row.place }
+}
+
 const fn slots<const N: usize>(of: u8) -> [Slot; N] {
     let mut slots = [Slot { at: 0, shift: 0, place: 0 }; N];
     let (mut n, mut found) = (0, 0);
     while n < FIELDS.len() {
-        let field = &FIELDS[n];
-        if sort(&field.row) == of {
-            slots[found] = Slot { at: (field.bit / 8) as u16, shift: (field.bit % 8) as u8, place: field.row.place };
+        if sort(&FIELDS[n].row) == of {
+            slots[found] = slot(&FIELDS[n]);
             found += 1;
         }
         n += 1;
@@ -56,6 +61,26 @@ const fn slots<const N: usize>(of: u8) -> [Slot; N] {
 static BITS: [Slot; count(0)] = slots(0);
 static BYTES: [Slot; count(1)] = slots(1);
 static WORDS: [Slot; count(2)] = slots(2);
+
+/// The field of a place.
+const fn slot_at(place: usize) -> Slot {
+    let mut n = 0;
+    while FIELDS[n].row.place as usize != place {
+        n += 1;
+    }
+    slot(&FIELDS[n])
+}
+
+/// Enable, level and hysteresis of each side.
+const SIDE_SLOTS: [[Slot; 3]; 4] = {
+    let mut slots = [[slot(&FIELDS[0]); 3]; 4];
+    let mut n = 0;
+    while n < 4 {
+        slots[n] = [slot_at(SIDES[n].enable), slot_at(SIDES[n].level), slot_at(SIDES[n].hysteresis)];
+        n += 1;
+    }
+    slots
+};
 
 /// A field that its width does not already keep within its limits.
 #[derive(Clone, Copy)]
@@ -128,19 +153,23 @@ fn put(block: &mut Block, at: u16, shift: u8, top: u64) {
 }
 
 #[inline]
-fn word_of(values: &Values, place: u16) -> u32 {
-    let place = place as usize;
-    let mut word = [0; 4];
-    word.copy_from_slice(&values[place..place + 4]);
-    u32::from_le_bytes(word)
-}
-
-#[inline]
 fn turned<F: Fault>(f: F, word: u32) -> u32 {
     if f.on(BlockLittleEndian) {
         word.swap_bytes()
     } else {
         word
+    }
+}
+
+impl Slot {
+    #[inline]
+    fn bit(&self, block: &Block) -> u8 {
+        block[self.at as usize] >> (7 - self.shift) & 1
+    }
+
+    #[inline]
+    fn word<F: Fault>(&self, f: F, block: &Block) -> u32 {
+        turned(f, (get(block, self.at, self.shift) >> 32) as u32)
     }
 }
 
@@ -163,12 +192,37 @@ impl Limit {
 
     #[inline]
     fn allows_values<F: Fault>(&self, f: F, values: &Values) -> bool {
-        let value = if self.width == 8 { values[self.place as usize] as u32 } else { word_of(values, self.place) };
+        let value = if self.width == 8 { values[self.place as usize] as u32 } else { bits32(values, self.place as usize) };
         self.allows(f, value)
     }
 }
 
+/// Inlined, so that the compiler knows the places.
+#[inline(always)]
+fn point<F: Fault>(f: F, block: &Block, high: &[Slot; 3], low: &[Slot; 3]) -> Point {
+    Point {
+        enables: [high[0].bit(block), low[0].bit(block)],
+        reals: [high[1].word(f, block), high[2].word(f, block), low[1].word(f, block), low[2].word(f, block)],
+    }
+}
+
+/// Whether a trip point of the block is crossed.
+fn crosses<F: Fault>(f: F, block: &Block) -> bool {
+    let [high_1, low_1, high_2, low_2] = &SIDE_SLOTS;
+    is_crossed(f, &point(f, block, high_1, low_1)) || is_crossed(f, &point(f, block, high_2, low_2)) && !f.on(BlockSecondUnjudged)
+}
+
+/// Whether a block is faulty for its crossed trip points alone.
+pub fn is_only_crossed<F: Fault>(f: F, block: &Block) -> bool {
+    !is_damaged(f, block) && crosses(f, block)
+}
+
 pub fn is_faulty<F: Fault>(f: F, block: &Block) -> bool {
+    is_damaged(f, block) || crosses(f, block)
+}
+
+/// Whether head, limits or rest are wrong.
+fn is_damaged<F: Fault>(f: F, block: &Block) -> bool {
     let head = if f.on(ModelNotTested) && block[0] >> 4 == 1 { HEAD } else { block[0] };
     if head != HEAD {
         return true;
@@ -207,17 +261,28 @@ pub fn load<F: Fault>(f: F, block: &Block, values: &mut Values) -> bool {
     true
 }
 
-fn take<F: Fault>(f: F, block: &Block, values: &mut Values) {
+/// What wrong variants take of a crossed block at power-up.
+pub fn take_crossed<F: Fault>(f: F, block: &Block, values: &mut Values) {
+    if !(f.on(PowerUpTakesCrossed) || f.on(PowerUpTakesGood)) || !is_only_crossed(f, block) {
+        return;
+    }
+    take(f, block, values);
+    for n in 0..2 {
+        if f.on(PowerUpTakesGood) && is_crossed(f, &Point::of(values, n)) {
+            values[crossed::span(n)].copy_from_slice(&DEFAULTS[crossed::span(n)]);
+        }
+    }
+}
+
+pub fn take<F: Fault>(f: F, block: &Block, values: &mut Values) {
     for slot in &WORDS {
-        let word = turned(f, (get(block, slot.at, slot.shift) >> 32) as u32);
-        let place = slot.place as usize;
-        values[place..place + 4].copy_from_slice(&word.to_le_bytes());
+        set32(values, slot.place as usize, slot.word(f, block));
     }
     for slot in &BYTES {
         values[slot.place as usize] = (get(block, slot.at, slot.shift) >> 56) as u8;
     }
     for slot in &BITS {
-        values[slot.place as usize] = block[slot.at as usize] >> (7 - slot.shift) & 1;
+        values[slot.place as usize] = slot.bit(block);
     }
     for_strings(|place, bit, len| {
         if bit % 8 == 0 {
@@ -250,16 +315,27 @@ fn for_strings(mut each: impl FnMut(usize, usize, usize)) {
     }
 }
 
-/// Writes the block, or nothing in it if a value is outside its limits.
+/// Whether a crossed trip point keeps the values from being stored.
+fn keeps_from_storing<F: Fault>(f: F, values: &Values) -> bool {
+    let point = |n: usize| is_crossed(f, &Point::of(values, n));
+    !f.on(StoreTakesCrossed) && (point(0) || point(1) && !f.on(StoreSecondUnjudged))
+}
+
+/// Writes the block, or nothing in it if a value is outside its limits or a trip point is crossed.
 pub fn store<F: Fault>(f: F, values: &Values, block: &mut Block) -> bool {
     let bools = BITS.iter().all(|slot| values[slot.place as usize] <= 1) || f.on(StoreClips) || f.on(BoolAnyByte);
-    let good = bools && LIMITS.iter().all(|limit| limit.allows_values(f, values));
-    if !good && !f.on(StoreAnything) {
-        if f.on(StoreRefusedWrites) {
-            block.fill(0);
-        }
-        return false;
+    let within = bools && LIMITS.iter().all(|limit| limit.allows_values(f, values)) || f.on(StoreAnything);
+    let good = within && !keeps_from_storing(f, values);
+    if f.on(StoreRefusedWrites) && !good {
+        block.fill(0);
     }
+    if good || f.on(CrossedStoreWrites) && within {
+        write(f, values, block);
+    }
+    good || f.on(CrossedStoreSilent) && within
+}
+
+fn write<F: Fault>(f: F, values: &Values, block: &mut Block) {
     if f.on(StoreLeavesRest) {
         block[..FIELDS_END / 8 + 1].fill(0);
     } else {
@@ -267,7 +343,7 @@ pub fn store<F: Fault>(f: F, values: &Values, block: &mut Block) -> bool {
     }
     block[0] = HEAD;
     for slot in &WORDS {
-        put(block, slot.at, slot.shift, (turned(f, word_of(values, slot.place)) as u64) << 32);
+        put(block, slot.at, slot.shift, (turned(f, bits32(values, slot.place as usize)) as u64) << 32);
     }
     for slot in &BYTES {
         put(block, slot.at, slot.shift, (values[slot.place as usize] as u64) << 56);
@@ -284,5 +360,4 @@ pub fn store<F: Fault>(f: F, values: &Values, block: &mut Block) -> bool {
             }
         }
     });
-    true
 }

@@ -34,6 +34,8 @@ pub struct Row {
     pub nv: bool,
     /// A mask of exceptions, told once so that a write asks no index.
     pub mask: bool,
+    /// The trip point, 0 or 1, that the entry is a setting of.
+    pub point: Option<u8>,
     pub len: u8,
     /// First byte in the values; 0 for the card and the command words, which have none.
     pub place: u16,
@@ -47,6 +49,10 @@ impl Row {
         (self.key >> 8) as u16
     }
 
+    pub const fn sub(&self) -> u8 {
+        self.key as u8
+    }
+
     pub const fn has_place(&self) -> bool {
         !matches!(self.kind, Kind::Card | Kind::Command)
     }
@@ -55,6 +61,15 @@ impl Row {
 /// Whether an index is that of a mask.
 pub const fn is_mask(index: u16) -> bool {
     matches!(index, 0xF3A1..=0xF3A8)
+}
+
+/// The trip point of an index, if it is that of a trip point's settings.
+const fn point(index: u16) -> Option<u8> {
+    match index {
+        0x800E => Some(0),
+        0x800F => Some(1),
+        _ => None,
+    }
 }
 
 const fn hex_digit(b: u8) -> Option<u64> {
@@ -174,14 +189,15 @@ const fn kind(span: (usize, usize)) -> Kind {
 }
 
 const fn row(line: usize) -> Row {
-    let access = cell(line, 3);
+    let (index, access) = (number(cell(line, 0), 16) as u16, cell(line, 3));
     Row {
-        key: (number(cell(line, 0), 16) * 256 + number(cell(line, 1), 16)) as u32,
+        key: index as u32 * 256 + number(cell(line, 1), 16) as u32,
         kind: kind(cell(line, 2)),
         readable: !is(access, b"WO"),
         writable: !is(access, b"RO"),
         nv: is(cell(line, 4), b"NV"),
-        mask: is_mask(number(cell(line, 0), 16) as u16),
+        mask: is_mask(index),
+        point: point(index),
         len: number(cell(line, 5), 10) as u8,
         place: number(cell(line, 6), 10) as u16,
         min: number(cell(line, 7), 16),
@@ -202,6 +218,7 @@ const ALL: [Row; COUNT] = {
         writable: false,
         nv: false,
         mask: false,
+        point: None,
         len: 0,
         place: 0,
         min: 0,

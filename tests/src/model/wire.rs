@@ -332,6 +332,8 @@ fn next_write<F: Fault>(f: F, message: &[u8; 8], record: &mut Record, values: &m
     if place < transfer.length && !f.on(ShortEndPadded) {
         return Err(abort(if f.on(ShortBeforeLong) { code::TOO_LONG } else { code::TOO_SHORT }));
     }
+    let unjudged = Row { point: None, ..*row };
+    let row = if f.on(PartsUnjudged) { &unjudged } else { row };
     let after = entry::write(f, row, &record[..transfer.length], values, block, f.on(LockAtOpening)).map_err(abort)?;
     record.fill(0);
     if f.on(EndedWriteKeepsRow) {

@@ -2,7 +2,7 @@
 use native.Mathlib.Omega.{arith}
 use lib.ListN.{getD}
 use borrow.Author.Tests.{lt-leb, le-leb}
-use Rattle.card.specs.Card.{plainly-within}
+use Rattle.card.specs.Asked.{plainly-within}
 use borrow.Author.Needs.{needs}
 use Rattle.enter.proofs.plainly_within.Statement.{statement}
 use Rattle.enter.proofs.plainly_within.Tie as tie

@@ -16,7 +16,7 @@ returns : tie.Need-returns
 returns c =
     let b = c .before .before .before .before .before .before .before .before .before .before .before in
     let a = b .args in
-    store-refused (a .values .now) (a .block .now) (c .before .before .fill-block .ensures .0) (omega (arith, c .if1 .taken))
+    store-refused (a .values .now) (a .block .now) (b .pre .3 .1) (c .before .before .fill-block .ensures .0) (omega (arith, c .if1 .taken))
 
 write-block-requires : tie.Need-write-block-requires
 write-block-requires c κs = search needs
@@ -28,7 +28,7 @@ returns-2 : tie.Need-returns-2
 returns-2 c =
     let b = c .before .before .before .before .before .before .before .before .before .before .before .before .before .before .before .before in
     let a = b .args in
-    store-done (a .values .now) (a .block .now) (c .before .before .before .before .before .before .before .fill-block .ensures .0) (omega arith) (b .pre .3) _ (c .before .before .before .before .before .before .before .fill-block .ensures .1) (c .before .before .write-block .ensures) (λ k. (c .slice-known2 .given k) .fits) (c .before .before .write-block .kept .1 .0 ∙ b .pre .4)
+    store-done (a .values .now) (a .block .now) (b .pre .3 .1) (c .before .before .before .before .before .before .before .fill-block .ensures .0) (omega arith) (b .pre .3 .0) _ (c .before .before .before .before .before .before .before .fill-block .ensures .1) (c .before .before .write-block .ensures) (λ k. (c .slice-known2 .given k) .fits) (c .before .before .write-block .kept .1 .0 ∙ b .pre .4)
 
 pub store-by-spec : {M : Type 1} → statement M
 store-by-spec =

@@ -1,11 +1,10 @@
 -- `gauge::commit::put`: each return is one law, given what the calls ensure. Assumes nothing.
-use mathlib.Core.Path.{sym, ap, _∙_}
+use mathlib.Core.Path.{sym, _∙_}
 use borrow.Author.Needs.{needs}
 use Rattle.table.specs.Rows.{at-row}
 use Rattle.table.proofs.Lengths.{allowed-room}
-use Rattle.gauge.specs.Masks.{among-masks}
 use Rattle.gauge.proofs.CommitLaws.{card-length, other-held, put-card, put-command, put-other}
-use Rattle.gauge.proofs.MaskLaws.{mask-by-place}
+use Rattle.gauge.proofs.RowTests.{mask-told}
 use Rattle.gauge.proofs.commit.put.Statement.{statement}
 use Rattle.gauge.proofs.commit.put.Tie as tie
 
@@ -42,8 +41,8 @@ store-entry-requires c κs =
     let s = c .before .before .before .before .before .before in
     (s .pre .0, s .pre .2, allowed-room (at-row (s .args .row)) (s .pre .4) ∙ sym (other-held (s .args .row) (s .pre .2) (λ e. c .before .before .if1 .left (s .pre .3 ∙ e)) (λ e. c .before .if2 .left (s .pre .3 ∙ e))))
 
-stand-at-requires : tie.Need-stand-at-requires
-stand-at-requires c κs = search needs
+is-among-requires : tie.Need-is-among-requires
+is-among-requires c κs = search needs
 
 heed-requires : tie.Need-heed-requires
 heed-requires c κs = search needs
@@ -54,12 +53,12 @@ same-length-4 c = search needs
 returns-3 : tie.Need-returns-3
 returns-3 c =
     let h = c .before .before in
-    let a = h .before in
-    let e = a .before .before .before .before in
+    let a = h .before .before in
+    let e = a .before .before .before in
     let i = e .before .before in
     let s = i .before .before .before .before .before in
     let r = s .args .row in
-    put-other (s .args .values .now) (s .args .block .now) (at-row r) (s .args .bytes .now) (s .args .kind) (s .pre .3) (i .before .if1 .left) (i .if2 .left) (e .store-entry .ensures .1) (a .stand-at .ensures ∙ ap among-masks (e .store-entry .ensures .0) ∙ mask-by-place r (s .pre .2)) (h .heed .ensures)
+    put-other (s .args .values .now) (s .args .block .now) (at-row r) (s .args .bytes .now) (s .args .kind) (s .pre .3) (i .before .if1 .left) (i .if2 .left) (e .store-entry .ensures .1) (mask-told r (s .pre .2) (e .store-entry .ensures .0) (a .is-among .ensures)) (h .heed .ensures)
 
 pub put-spec : {M : Type 1} → statement M
 put-spec =
@@ -74,7 +73,7 @@ put-spec =
     same-length-3
     returns-2
     store-entry-requires
-    stand-at-requires
+    is-among-requires
     heed-requires
     same-length-4
     returns-3)

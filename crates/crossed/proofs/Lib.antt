@@ -1,0 +1,3 @@
+-- Laws of a crossed trip point.
+pub mod CrossedLaws
+mod Examples

@@ -1,0 +1,3 @@
+-- What the contracts of `crossed` cite.
+pub mod Crossed
+pub mod Fitting
