@@ -18,9 +18,11 @@ void *malloc(size n);
 int fflush(void *file);
 
 #define SIGNATURES(name)                                                                                                            \
-    unsigned name##_power_up(byte *values, size v, const byte *block, size b, byte *state, size s);                                 \
+    unsigned name##_power_up(unsigned form, byte *values, size v, const byte *block, size b, byte *state, size s);                  \
     unsigned name##_message(unsigned line, const byte *message, size m, byte *values, size v, byte *block, size b, byte *state,     \
                             size s, byte *answer, size a);                                                                          \
+    unsigned name##_mailbox(const byte *mailbox, size m, byte *values, size v, byte *block, size b, byte *state, size s,            \
+                            byte *answer, size a);                                                                                  \
     unsigned name##_sample(float pressure, byte valid, unsigned faults, unsigned seconds, byte *values, size v, byte *state,        \
                            size s);                                                                                                 \
     unsigned name##_image(const byte *values, size v, byte *image, size i);
@@ -30,9 +32,9 @@ SIGNATURES(rival)
 
 #define KEEP __attribute__((noinline, used))
 
-KEEP static unsigned nothing_power_up(byte *values, size v, const byte *block, size b, byte *state, size s)
+KEEP static unsigned nothing_power_up(unsigned form, byte *values, size v, const byte *block, size b, byte *state, size s)
 {
-    (void)values, (void)v, (void)block, (void)b, (void)state, (void)s;
+    (void)form, (void)values, (void)v, (void)block, (void)b, (void)state, (void)s;
     return 0;
 }
 
@@ -40,6 +42,13 @@ KEEP static unsigned nothing_message(unsigned line, const byte *message, size m,
                                      size s, byte *answer, size a)
 {
     (void)line, (void)message, (void)m, (void)values, (void)v, (void)block, (void)b, (void)state, (void)s, (void)answer, (void)a;
+    return 0;
+}
+
+KEEP static unsigned nothing_mailbox(const byte *mailbox, size m, byte *values, size v, byte *block, size b, byte *state, size s,
+                                     byte *answer, size a)
+{
+    (void)mailbox, (void)m, (void)values, (void)v, (void)block, (void)b, (void)state, (void)s, (void)answer, (void)a;
     return 0;
 }
 
@@ -57,18 +66,19 @@ KEEP static unsigned nothing_image(const byte *values, size v, byte *image, size
 }
 
 struct board {
-    unsigned (*power_up)(byte *, size, const byte *, size, byte *, size);
+    unsigned (*power_up)(unsigned, byte *, size, const byte *, size, byte *, size);
     unsigned (*message)(unsigned, const byte *, size, byte *, size, byte *, size, byte *, size, byte *, size);
+    unsigned (*mailbox)(const byte *, size, byte *, size, byte *, size, byte *, size, byte *, size);
     unsigned (*sample)(float, byte, unsigned, unsigned, byte *, size, byte *, size);
     unsigned (*image)(const byte *, size, byte *, size);
 };
 
-static const struct board nothing = {nothing_power_up, nothing_message, nothing_sample, nothing_image};
-static const struct board independent = {rival_power_up, rival_message, rival_sample, rival_image};
+static const struct board nothing = {nothing_power_up, nothing_message, nothing_mailbox, nothing_sample, nothing_image};
+static const struct board independent = {rival_power_up, rival_message, rival_mailbox, rival_sample, rival_image};
 #ifdef NO_LIBRARY
-static const struct board board = {rival_power_up, rival_message, rival_sample, rival_image};
+static const struct board board = {rival_power_up, rival_message, rival_mailbox, rival_sample, rival_image};
 #else
-static const struct board board = {gauge_power_up, gauge_message, gauge_sample, gauge_image};
+static const struct board board = {gauge_power_up, gauge_message, gauge_mailbox, gauge_sample, gauge_image};
 #endif
 
 struct memory {
@@ -77,7 +87,7 @@ struct memory {
 
 struct call {
     unsigned number, words[4];
-    byte message[8];
+    byte message[128]; /* eight bytes, or a mailbox */
 };
 
 struct kind {
@@ -129,7 +139,7 @@ __attribute__((noinline, used)) void bench_mark(void)
 
 static inline __attribute__((always_inline)) void make(const struct board *on, const struct call *call, int marked)
 {
-    byte room[16];
+    byte room[128];
     struct memory *m = &memory;
     float pressure;
     if (marked) {
@@ -137,7 +147,7 @@ static inline __attribute__((always_inline)) void make(const struct board *on, c
     }
     switch (call->number) {
     case 0:
-        sink = on->power_up(m->values, 1024, m->block, 512, m->state, 256);
+        sink = on->power_up(call->words[0], m->values, 1024, m->block, 512, m->state, 256);
         break;
     case 1:
         sink = on->message(call->words[0], call->message, 8, m->values, 1024, m->block, 512, m->state, 256, room, 8);
@@ -145,6 +155,9 @@ static inline __attribute__((always_inline)) void make(const struct board *on, c
     case 2:
         memcpy(&pressure, &call->words[0], 4);
         sink = on->sample(pressure, (byte)call->words[1], call->words[2], call->words[3], m->values, 1024, m->state, 256);
+        break;
+    case 4:
+        sink = on->mailbox(call->message, 128, m->values, 1024, m->block, 512, m->state, 256, room, 128);
         break;
     default:
         sink = on->image(m->values, 1024, room, 10);

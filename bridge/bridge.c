@@ -1,4 +1,4 @@
-/* The four C calls for a machine that cannot run the board's x86-64 library: each is handed on to an emulated process that has it.
+/* The five C calls for a machine that cannot run the board's x86-64 library: each is handed on to an emulated process that has it.
  * Every thread has a process of its own, which ends with this one. */
 #define _GNU_SOURCE
 #include "gauge.h"
@@ -77,7 +77,7 @@ static uint32_t hand_on(struct request *request, uint8_t *buffers[BUFFERS])
     memcpy(&reply, buffer, sizeof reply);
     at = sizeof reply;
     for (b = 0; b < BUFFERS; b++) {
-        /* the message is lent for reading; so are the block of a power-up and the values of an image */
+        /* message and mailbox are lent for reading; so are the block of a power-up and the values of an image */
         int written = !(b == TEXT || (b == BLOCK && request->call == POWER_UP) || (b == VALUES && request->call == IMAGE));
         if (request->lengths[b] > 0) {
             if (written) {
@@ -101,9 +101,10 @@ static unsigned length(size_t n)
     return n > LONGEST ? LONGEST + 1u : (unsigned)n;
 }
 
-uint32_t gauge_power_up(uint8_t *values, size_t values_len, const uint8_t *block, size_t block_len, uint8_t *state, size_t state_len)
+uint32_t gauge_power_up(uint32_t form, uint8_t *values, size_t values_len, const uint8_t *block, size_t block_len, uint8_t *state,
+                        size_t state_len)
 {
-    struct request request = {POWER_UP, {0}, {length(values_len), length(block_len), length(state_len), 0, 0}};
+    struct request request = {POWER_UP, {form, 0, 0, 0}, {length(values_len), length(block_len), length(state_len), 0, 0}};
     uint8_t *buffers[BUFFERS] = {values, (uint8_t *)block, state, NULL, NULL};
     return hand_on(&request, buffers);
 }
@@ -114,6 +115,15 @@ uint32_t gauge_message(uint32_t line, const uint8_t *message, size_t message_len
     struct request request = {
         MESSAGE, {line, 0, 0, 0}, {length(values_len), length(block_len), length(state_len), length(message_len), length(answer_len)}};
     uint8_t *buffers[BUFFERS] = {values, block, state, (uint8_t *)message, answer};
+    return hand_on(&request, buffers);
+}
+
+uint32_t gauge_mailbox(const uint8_t *mailbox, size_t mailbox_len, uint8_t *values, size_t values_len, uint8_t *block,
+                       size_t block_len, uint8_t *state, size_t state_len, uint8_t *answer, size_t answer_len)
+{
+    struct request request = {
+        MAILBOX, {0}, {length(values_len), length(block_len), length(state_len), length(mailbox_len), length(answer_len)}};
+    uint8_t *buffers[BUFFERS] = {values, block, state, (uint8_t *)mailbox, answer};
     return hand_on(&request, buffers);
 }
 

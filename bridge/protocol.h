@@ -2,13 +2,13 @@
 #ifndef PROTOCOL_H
 #define PROTOCOL_H
 
-enum { POWER_UP, MESSAGE, SAMPLE, IMAGE };
+enum { POWER_UP, MESSAGE, SAMPLE, IMAGE, MAILBOX };
 enum { VALUES, BLOCK, STATE, TEXT, ROOM, BUFFERS };
 
 /* a call: its number arguments, and the lengths of the buffers whose bytes follow */
 struct request {
     unsigned call;
-    unsigned numbers[4]; /* line; or pressure's bits, valid, faults, seconds */
+    unsigned numbers[4]; /* form; or line; or pressure's bits, valid, faults, seconds */
     unsigned lengths[BUFFERS];
 };
 

@@ -10,9 +10,11 @@ long write(int file, const void *from, size n);
 void *memcpy(void *to, const void *from, size n);
 void _exit(int status) __attribute__((noreturn));
 
-unsigned gauge_power_up(byte *values, size v, const byte *block, size b, byte *state, size s);
+unsigned gauge_power_up(unsigned form, byte *values, size v, const byte *block, size b, byte *state, size s);
 unsigned gauge_message(unsigned line, const byte *message, size m, byte *values, size v, byte *block, size b, byte *state, size s,
                        byte *answer, size a);
+unsigned gauge_mailbox(const byte *mailbox, size m, byte *values, size v, byte *block, size b, byte *state, size s, byte *answer,
+                       size a);
 unsigned gauge_sample(float pressure, byte valid, unsigned faults, unsigned seconds, byte *values, size v, byte *state, size s);
 unsigned gauge_image(const byte *values, size v, byte *image, size i);
 
@@ -70,12 +72,17 @@ int main(void)
         }
         switch (request.call) {
         case POWER_UP:
-            reply.number = gauge_power_up(lent[VALUES], request.lengths[VALUES], lent[BLOCK], request.lengths[BLOCK], lent[STATE],
-                                          request.lengths[STATE]);
+            reply.number = gauge_power_up(request.numbers[0], lent[VALUES], request.lengths[VALUES], lent[BLOCK],
+                                          request.lengths[BLOCK], lent[STATE], request.lengths[STATE]);
             break;
         case MESSAGE:
             reply.number = gauge_message(request.numbers[0], lent[TEXT], request.lengths[TEXT], lent[VALUES], request.lengths[VALUES],
                                          lent[BLOCK], request.lengths[BLOCK], lent[STATE], request.lengths[STATE], lent[ROOM],
+                                         request.lengths[ROOM]);
+            break;
+        case MAILBOX:
+            reply.number = gauge_mailbox(lent[TEXT], request.lengths[TEXT], lent[VALUES], request.lengths[VALUES], lent[BLOCK],
+                                         request.lengths[BLOCK], lent[STATE], request.lengths[STATE], lent[ROOM],
                                          request.lengths[ROOM]);
             break;
         case SAMPLE: {

@@ -1,8 +1,9 @@
-/* The board as C firmware calls it: power-up, the examples of docs/RULES.md, refusals, samples, masks, crossed trip points and the image.
- * Every buffer stands between guard bytes. Prints what fails; the exit status is 0 if nothing does. */
+/* The board as C firmware calls it: power-up, the examples of docs/RULES.md, refusals, samples, masks, crossed trip points, the image and
+ * the mailbox. Every buffer stands between guard bytes. Prints what fails; the exit status is 0 if nothing does. */
 #include "check.h"
 #include "gauge.h"
 
+#include <assert.h>
 #include <string.h>
 
 #define GUARD 32u
@@ -19,7 +20,14 @@ static struct {
     uint8_t guard3[GUARD];
     uint8_t answer[GAUGE_ANSWER_SIZE + 8u];
     uint8_t guard4[GUARD];
+    uint8_t mailbox[GAUGE_MAILBOX_SIZE];
+    uint8_t guard5[GUARD];
+    uint8_t room[GAUGE_MAILBOX_SIZE + 8u];
+    uint8_t guard6[GUARD];
 } board, before;
+
+static_assert(GAUGE_MAILBOX_SIZE == 128u && GAUGE_FORM_EIGHT == 0u && GAUGE_FORM_MAILBOX == 1u, "the forms of line 0");
+static_assert(GAUGE_BAD_MAILBOX == 6u && GAUGE_NOT_SDO == 7u, "the numbers of a mailbox");
 
 static int same(const uint8_t *a, const uint8_t *b, size_t n)
 {
@@ -40,19 +48,20 @@ static int all(const uint8_t *bytes, size_t n, uint8_t value)
 static int guards_hold(void)
 {
     return all(board.guard0, GUARD, 0xA1) && all(board.guard1, GUARD, 0xA2) && all(board.guard2, GUARD, 0xA3) &&
-           all(board.guard3, GUARD, 0xA4) && all(board.guard4, GUARD, 0xA5);
+           all(board.guard3, GUARD, 0xA4) && all(board.guard4, GUARD, 0xA5) && all(board.guard5, GUARD, 0xA6) &&
+           all(board.guard6, GUARD, 0xA7);
 }
 
 /* power-up on the block as it stands */
-static void restart(void)
+static void restart(uint32_t form)
 {
-    CHECK(gauge_power_up(board.values, sizeof board.values, board.block, sizeof board.block, board.state, sizeof board.state) ==
+    CHECK(gauge_power_up(form, board.values, sizeof board.values, board.block, sizeof board.block, board.state, sizeof board.state) ==
           GAUGE_DONE);
     CHECK(guards_hold());
 }
 
 /* power-up on a zero block, whatever the memory held */
-static void start(void)
+static void start_in(uint32_t form)
 {
     memset(&board, 0x66, sizeof board);
     memset(board.guard0, 0xA1, GUARD);
@@ -60,8 +69,15 @@ static void start(void)
     memset(board.guard2, 0xA3, GUARD);
     memset(board.guard3, 0xA4, GUARD);
     memset(board.guard4, 0xA5, GUARD);
+    memset(board.guard5, 0xA6, GUARD);
+    memset(board.guard6, 0xA7, GUARD);
     memset(board.block, 0, sizeof board.block);
-    restart();
+    restart(form);
+}
+
+static void start(void)
+{
+    start_in(GAUGE_FORM_EIGHT);
 }
 
 static uint32_t send(uint32_t line, const uint8_t message[8], size_t room)
@@ -71,11 +87,13 @@ static uint32_t send(uint32_t line, const uint8_t message[8], size_t room)
                          board.state, sizeof board.state, board.answer, room);
 }
 
-static void unhex(const char *text, uint8_t bytes[8])
+/* zeros behind what is written */
+static void unhex(const char *text, uint8_t *bytes, size_t size)
 {
-    unsigned n = 0, byte;
-    memset(bytes, 0, 8);
-    while (n < 8 && sscanf(text, "%2x", &byte) == 1) {
+    size_t n = 0;
+    unsigned byte;
+    memset(bytes, 0, size);
+    while (n < size && sscanf(text, "%2x", &byte) == 1) {
         bytes[n++] = (uint8_t)byte;
         text += 2;
         while (*text == ' ') {
@@ -89,8 +107,8 @@ static void talk(uint32_t line, const char *message, const char *answer, int sou
 {
     uint8_t in[8], out[8];
     uint32_t number;
-    unhex(message, in);
-    unhex(answer, out);
+    unhex(message, in, sizeof in);
+    unhex(answer, out, sizeof out);
     number = send(line, in, GAUGE_ANSWER_SIZE);
     check(number == GAUGE_DONE && same(board.answer, out, 8), message, __FILE__, source);
     check(all(board.answer + 8, 8, FILL), "later bytes of the room untouched", __FILE__, source);
@@ -104,13 +122,21 @@ static void power_up(void)
     size_t i;
     start();
     CHECK(all(board.state, 70, 0) && all(board.state + 96, 70, 0) && all(board.state + 192, 4, 0));
-    /* spare bytes are never written */
-    CHECK(all(board.state + 70, 26, 0x66) && all(board.state + 166, 26, 0x66) && all(board.state + 196, 60, 0x66));
+    /* spare bytes are never written; the form stands before the last of them */
+    CHECK(all(board.state + 70, 26, 0x66) && all(board.state + 166, 26, 0x66) && all(board.state + 197, 59, 0x66));
+    CHECK(board.state[196] == 0);
     CHECK(all(board.block, sizeof board.block, 0));
     /* device type 0000138B first, bytes of no entry zero */
     CHECK(board.values[0] == 0x8B && board.values[1] == 0x13 && board.values[2] == 0 && board.values[3] == 0);
     for (i = 599; i < sizeof board.values; i++) {
         CHECK(board.values[i] == 0);
+    }
+    before = board;
+    for (i = 0; i < 3; i++) {
+        static const uint32_t forms[] = {GAUGE_FORM_MAILBOX, 256, 0xFFFFFFFFu};
+        restart(forms[i]);
+        before.state[196] = 1;
+        CHECK(same((const uint8_t *)&before, (const uint8_t *)&board, sizeof board));
     }
 }
 
@@ -284,7 +310,7 @@ static void crossed(void)
     start(); /* levels of 0 and one side enabled in each of two blocks: together they are crossed */
     TALK(0, "2F 0E 80 02 01", "60 0E 80 02");
     TALK(1, "23 F2 FB 01 73 61 76 65", "60 F2 FB 01");
-    restart();
+    restart(GAUGE_FORM_EIGHT);
     TALK(0, "40 0E 80 02", "4F 0E 80 02 01");
     for (i = 0; i < sizeof high_enabled; i++) {
         board.block[i] |= high_enabled[i];
@@ -292,7 +318,7 @@ static void crossed(void)
     TALK(1, "23 F4 FB 01 6C 6F 61 64", "60 F4 FB 01");
     TALK(1, "40 F4 FB 02", "4F F4 FB 02 02");
     TALK(0, "40 0E 80 01", "4F 0E 80 01");
-    restart();
+    restart(GAUGE_FORM_EIGHT);
     TALK(0, "40 0E 80 01", "4F 0E 80 01");
     TALK(0, "40 0E 80 02", "4F 0E 80 02");
 }
@@ -319,7 +345,7 @@ static void commands(void)
     TALK(0, "60", "80 00 00 00 01 00 04 05");
     TALK(0, "40 0E 80 02", "4F 0E 80 02 01");
     board.block[511] = 1; /* a damaged block: defaults */
-    restart();
+    restart(GAUGE_FORM_EIGHT);
     TALK(0, "40 0E 80 02", "4F 0E 80 02");
 }
 
@@ -359,8 +385,8 @@ static void refusals(void)
                 }
                 if (v || b || s) {
                     before = board;
-                    CHECK(gauge_power_up(board.values, sizeof board.values - v, board.block, sizeof board.block - b, board.state,
-                                         sizeof board.state - s) == GAUGE_BAD_MEMORY);
+                    CHECK(gauge_power_up(GAUGE_FORM_MAILBOX, board.values, sizeof board.values - v, board.block,
+                                         sizeof board.block - b, board.state, sizeof board.state - s) == GAUGE_BAD_MEMORY);
                     CHECK(same((const uint8_t *)&before, (const uint8_t *)&board, sizeof board));
                 }
             }
@@ -376,6 +402,161 @@ static void refusals(void)
     CHECK(guards_hold());
 }
 
+static uint32_t post(size_t length, size_t room)
+{
+    memset(board.room, FILL, sizeof board.room);
+    return gauge_mailbox(board.mailbox, length, board.values, sizeof board.values, board.block, sizeof board.block, board.state,
+                         sizeof board.state, board.room, room);
+}
+
+/* a mailbox and the answer it must get, byte by byte, with zeros behind what is shown */
+static void posted(const char *mailbox, const char *answer, int source)
+{
+    uint8_t out[GAUGE_MAILBOX_SIZE];
+    uint32_t number;
+    unhex(mailbox, board.mailbox, sizeof board.mailbox);
+    unhex(answer, out, sizeof out);
+    before = board;
+    number = post(GAUGE_MAILBOX_SIZE, GAUGE_MAILBOX_SIZE);
+    check(number == GAUGE_DONE && same(board.room, out, sizeof out), mailbox, __FILE__, source);
+    check(all(board.room + sizeof out, 8, FILL), "later bytes of the room untouched", __FILE__, source);
+    check(same(before.mailbox, board.mailbox, sizeof board.mailbox), "the mailbox is lent for reading", __FILE__, source);
+    check(guards_hold(), "guard bytes", __FILE__, source);
+}
+
+#define POST(mailbox, answer) posted(mailbox, answer, __LINE__)
+
+#define CARD "14 00 00 00 00 00 00 00 00 FC 00 00 00 F8"
+#define LABEL "41 42 43 44 45 46 47 48 49 4A 4B 4C 4D 4E 4F 50 51 52 53 54 55 56 57 58 59 5A 30 31 32 33 34 35"
+
+/* the tool on the mailbox, the laptop in eight bytes */
+static void mailboxes(void)
+{
+    start_in(GAUGE_FORM_MAILBOX);
+    TALK(1, "2F 0E 80 02 01", "60 0E 80 02");
+    TALK(1, "23 0E 80 14 00 00 00 3F", "60 0E 80 14");
+    POST("0A 00 01 10 00 13 00 20 23 0E 80 18 00 00 00 3E", "0A 00 01 10 00 13 00 30 60 0E 80 18");
+    /* example K's card in one mailbox; what is not looked at may be anything */
+    POST("0A 00 01 10 00 23 00 20 40 10 20 00", "2B 00 01 10 00 23 00 30 41 10 20 00 21 00 00 00 " CARD);
+    POST("0A 00 34 12 FF F3 FF 2F 5F 10 20 00 FF FF FF FF FF", "2B 00 34 12 00 73 00 30 41 10 20 00 21 00 00 00 " CARD);
+    CHECK(all(board.state, 70, 0));
+    /* a label by one mailbox, then by an opening that carries two bytes and a part that brings 30 */
+    POST("2A 00 01 10 00 33 00 20 21 01 20 00 20 00 00 00 " LABEL, "0A 00 01 10 00 33 00 30 60 01 20 00");
+    CHECK(all(board.state, 70, 0));
+    POST("0A 00 01 10 00 43 00 20 40 01 20 00", "2A 00 01 10 00 43 00 30 41 01 20 00 20 00 00 00 " LABEL);
+    POST("0C 00 01 10 00 53 00 20 21 01 20 00 20 00 00 00 61 62", "0A 00 01 10 00 53 00 30 60 01 20 00");
+    TALK(1, "40 01 20 00", "41 01 20 00 20");
+    TALK(1, "60", "00 41 42 43 44 45 46 47");
+    POST("21 00 01 10 00 63 00 20 01 63", "0A 00 01 10 00 63 00 30 20");
+    TALK(1, "70", "10 48 49 4A 4B 4C 4D 4E");
+    POST("0A 00 01 10 00 73 00 20 40 01 20 00", "2A 00 01 10 00 73 00 30 41 01 20 00 20 00 00 00 61 62 63");
+    /* aborts have service 2 */
+    POST("0A 00 01 10 00 13 00 20 40 04 20 00", "0A 00 01 10 00 13 00 20 80 04 20 00 00 00 02 06");
+    POST("0B 00 01 10 00 13 00 20 21 03 20 00 01 00 00 00 02", "0A 00 01 10 00 13 00 20 80 03 20 00 31 00 09 06");
+    POST("0C 00 01 10 00 13 00 20 21 03 20 00 01 00 00 00 01 01", "0A 00 01 10 00 13 00 20 80 03 20 00 12 00 07 06");
+    POST("0A 00 01 10 00 13 00 20 60", "0A 00 01 10 00 13 00 20 80 00 00 00 01 00 04 05");
+    /* a device reset by one mailbox keeps the form */
+    POST("10 00 01 10 00 23 00 20 21 F0 FB 01 06 00 00 00 74 65 73 65 72", "0A 00 01 10 00 23 00 30 60 F0 FB 01");
+    POST("0A 00 01 10 00 33 00 20 40 0E 80 02", "0A 00 01 10 00 33 00 30 4F 0E 80 02");
+}
+
+/* the bytes that line 0's transfer holds, zeros behind what is shown, and its position */
+static int holds(const char *bytes, uint8_t position)
+{
+    uint8_t held[64];
+    unhex(bytes, held, sizeof held);
+    return same(board.state, held, sizeof held) && board.state[68] == position;
+}
+
+/* bytes behind the length field are not kept: of an opening with a length and without one, of a long part, of a short one, of the last */
+static void bytes_behind(void)
+{
+    start_in(GAUGE_FORM_MAILBOX);
+    POST("0C 00 01 10 00 13 00 20 20 01 20 00 00 00 00 00 61 62 FF FF", "0A 00 01 10 00 13 00 30 60 01 20 00");
+    CHECK(holds("61 62", 2));
+    POST("0A 00 01 10 00 23 00 20 21 01 20 00 20 00 00 00 FF FF", "0A 00 01 10 00 23 00 30 60 01 20 00");
+    CHECK(holds("", 0));
+    POST("0C 00 01 10 00 33 00 20 21 01 20 00 20 00 00 00 61 62 FF FF", "0A 00 01 10 00 33 00 30 60 01 20 00");
+    CHECK(holds("61 62", 2));
+    POST("0C 00 01 10 00 43 00 20 00 63 64 65 66 67 68 69 6A 6B FF FF", "0A 00 01 10 00 43 00 30 20");
+    CHECK(holds("61 62 63 64 65 66 67 68 69 6A 6B", 11));
+    POST("0A 00 01 10 00 53 00 20 1A 6C 6D FF FF FF FF FF FF FF", "0A 00 01 10 00 53 00 30 30");
+    CHECK(holds("61 62 63 64 65 66 67 68 69 6A 6B 6C 6D", 13));
+    POST("16 00 01 10 00 63 00 20 01 6E 6F 70 71 72 73 74 75 76 77 78 79 7A 30 31 32 33 34 35 FF FF", "0A 00 01 10 00 63 00 30 20");
+    CHECK(holds("", 0));
+    TALK(1, "40 01 20 00", "41 01 20 00 20");
+    TALK(1, "60", "00 61 62 63 64 65 66 67");
+    TALK(1, "70", "10 68 69 6A 6B 6C 6D 6E");
+    TALK(1, "60", "00 6F 70 71 72 73 74 75");
+    TALK(1, "70", "10 76 77 78 79 7A 30 31");
+    TALK(1, "60", "07 32 33 34 35");
+}
+
+/* a number for the mailbox as it is lent, and nothing written */
+static void refused(uint32_t expected, size_t length, size_t room, int source)
+{
+    uint32_t number;
+    memset(board.room, FILL, sizeof board.room);
+    before = board;
+    number = post(length, room);
+    check(number == expected, "the number of a mailbox", __FILE__, source);
+    check(same((const uint8_t *)&before, (const uint8_t *)&board, sizeof board), "a refused mailbox wrote", __FILE__, source);
+}
+
+#define REFUSED(expected, length, room) refused(expected, length, room, __LINE__)
+
+/* 4, 3, 6, 7, 2 in this order; 3 for line 0 in the form that is not chosen */
+static void mailbox_refusals(void)
+{
+    static const uint8_t read_lock[8] = {0x40, 0x03, 0x20, 0x00};
+    static const uint8_t lengths[] = {0, 9, 123, 255};
+    size_t i;
+    start();
+    unhex("0A 00 01 10 00 13 00 20 40 03 20 00", board.mailbox, sizeof board.mailbox);
+    REFUSED(GAUGE_BAD_LINE, 128, 128);
+    REFUSED(GAUGE_BAD_LINE, 127, 0);
+    start_in(GAUGE_FORM_MAILBOX);
+    before = board;
+    CHECK(send(0, read_lock, 8) == GAUGE_BAD_LINE && send(0, read_lock, 0) == GAUGE_BAD_LINE && send(1, read_lock, 8) == GAUGE_DONE);
+    CHECK(same(before.state, board.state, sizeof board.state) && same(before.values, board.values, sizeof board.values));
+    unhex("0B 00 01 10 00 13 00 20 20 01 20 00 00 00 00 00 41", board.mailbox, sizeof board.mailbox);
+    CHECK(post(128, 128) == GAUGE_DONE && board.state[66] == 2 && board.state[68] == 1); /* a write that must outlive all refusals */
+    CHECK(gauge_mailbox(board.mailbox, 127, board.values, sizeof board.values - 1, board.block, sizeof board.block, board.state,
+                        sizeof board.state, board.room, 0) == GAUGE_BAD_MEMORY);
+    CHECK(gauge_mailbox(board.mailbox, 127, board.values, sizeof board.values, board.block, sizeof board.block - 1, board.state,
+                        sizeof board.state, board.room, 0) == GAUGE_BAD_MEMORY);
+    CHECK(gauge_mailbox(board.mailbox, 127, board.values, sizeof board.values, board.block, sizeof board.block, board.state,
+                        sizeof board.state - 1, board.room, 0) == GAUGE_BAD_MEMORY);
+    REFUSED(GAUGE_BAD_MAILBOX, 127, 128);
+    REFUSED(GAUGE_BAD_MAILBOX, 0, 0);
+    REFUSED(GAUGE_SHORT_ROOM, 128, 127);
+    for (i = 0; i < sizeof lengths; i++) {
+        board.mailbox[0] = lengths[i];
+        REFUSED(GAUGE_BAD_MAILBOX, 128, 0);
+    }
+    board.mailbox[0] = 10;
+    board.mailbox[1] = 1;
+    REFUSED(GAUGE_BAD_MAILBOX, 128, 128);
+    board.mailbox[1] = 0;
+    board.mailbox[5] = 0x12;
+    REFUSED(GAUGE_NOT_SDO, 128, 0);
+    board.mailbox[0] = 9;
+    REFUSED(GAUGE_BAD_MAILBOX, 128, 128);
+    board.mailbox[0] = 10;
+    board.mailbox[5] = 0x13;
+    board.mailbox[7] = 0x30;
+    REFUSED(GAUGE_NOT_SDO, 128, 128);
+    board.mailbox[7] = 0x20;
+    board.mailbox[8] = 0x80; /* the client's abort is no refusal, but too short a room is refused first */
+    REFUSED(GAUGE_SHORT_ROOM, 128, 127);
+    CHECK(board.state[66] == 2);
+    CHECK(post(128, 128) == GAUGE_CLIENT_ABORT);
+    CHECK(all(board.room, sizeof board.room, FILL) && all(board.state, 70, 0) && board.state[196] == 1);
+    board.state[196] = 0xFE; /* a lent form that is not 0 is the mailbox */
+    CHECK(post(128, 128) == GAUGE_CLIENT_ABORT && board.state[196] == 0xFE);
+    CHECK(guards_hold());
+}
+
 int main(void)
 {
     power_up();
@@ -385,5 +566,8 @@ int main(void)
     crossed();
     commands();
     refusals();
+    mailboxes();
+    bytes_behind();
+    mailbox_refusals();
     return closed("C test");
 }

@@ -67,7 +67,7 @@ static uint32_t power_up(void)
     recover(&kept);
     printf("block: %s, sequence %u\n", kept.block[0] == 0 ? "never stored" : "kept", (unsigned)kept.sequence);
     memcpy(block, kept.block, sizeof block);
-    return gauge_power_up(values, sizeof values, block, sizeof block, state, sizeof state);
+    return gauge_power_up(GAUGE_FORM_EIGHT, values, sizeof values, block, sizeof block, state, sizeof state);
 }
 
 /* Serves a message. The block is kept before the answer is sent, so that a store that was answered outlives a loss of power; with no

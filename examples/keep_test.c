@@ -25,7 +25,7 @@ struct settings {
 static void start(const uint8_t *from)
 {
     memcpy(block, from, sizeof block);
-    CHECK(gauge_power_up(values, sizeof values, block, sizeof block, state, sizeof state) == GAUGE_DONE);
+    CHECK(gauge_power_up(GAUGE_FORM_EIGHT, values, sizeof values, block, sizeof block, state, sizeof state) == GAUGE_DONE);
 }
 
 static void say(uint8_t first, unsigned index, unsigned sub, uint32_t word, uint8_t answer[GAUGE_ANSWER_SIZE])

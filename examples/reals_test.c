@@ -34,7 +34,7 @@ static void start(float level, float hysteresis)
     static const uint8_t enable[GAUGE_MESSAGE_SIZE] = {0x2F, 0x0E, 0x80, 0x02, 0x01};
     uint8_t answer[GAUGE_ANSWER_SIZE];
     memset(block, 0, sizeof block);
-    CHECK(gauge_power_up(values, sizeof values, block, sizeof block, state, sizeof state) == GAUGE_DONE);
+    CHECK(gauge_power_up(GAUGE_FORM_EIGHT, values, sizeof values, block, sizeof block, state, sizeof state) == GAUGE_DONE);
     CHECK(gauge_message(GAUGE_LINE_TOOL, enable, sizeof enable, values, sizeof values, block, sizeof block, state, sizeof state, answer,
                         sizeof answer) == GAUGE_DONE);
     put(0x14, level);

@@ -33,6 +33,7 @@ def meant(root):
     record = constant(root, "state/src/lib.rt", "RECORD")
     field = {(32, 6): "a field of a trip point"}
     value = {(8, 64): "a byte of a transfer's value"}
+    answer = {(8, 8): "a byte of an answer"}
     entry = {(width, rows): "an NV entry" for width in (8, 16, 32)} | {(16, rows + 1): "an NV entry's first bit, and the end"}
     return {
         "wire": {},
@@ -47,7 +48,12 @@ def meant(root):
         "gauge": value,
         "transfer": value,
         "state": value | {(8, record): "a byte of a record"},
-        "line": value | {(8, 8): "a byte of an answer"},
+        "line": value | answer,
+        "reader": {},
+        "mailbox": {},
+        "outbox": value | answer,
+        "inbox": value | answer,
+        "post": answer,
         "board": {},
     }
 

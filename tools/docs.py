@@ -199,7 +199,7 @@ class Definitions:
         return len(self.parsed[at[0]][0][at[1]].lines) if at[0].endswith(".antt") else declared_lines(*at)
 
 
-CALLS = [("crates/board/specs/Calls.antt", name) for name in ("message-call", "power-up-call", "sample-call", "image-call")]
+CALLS = [("crates/board/specs/Calls.antt", name) for name in ("message-call", "mailbox-call", "power-up-call", "sample-call", "image-call")]
 FIRMWARE = "crates/demand3/specs/Firmware.antt"
 # the questions of a reader: what is stated, and what the statement is about whatever it says, so that it need not be believed for it
 ASKED = [
@@ -215,9 +215,9 @@ ASKED = [
         ("crates/talk/specs/Turns.antt", "taken"), ("crates/talk/specs/Run.antt", "after-lines")], CALLS),
     ("Boards", [
         ("crates/demand3/specs/%s.antt" % file, name) for file, names in (
-            ("Promised", "Meets Power-up-promised Sample-promised Image-promised"), ("Refused", "Aborts Sends Forgets Fakes"),
+            ("Promised", "Meets Mailbox-promised Power-up-promised Sample-promised Image-promised"), ("Refused", "Aborts Sends Forgets Fakes"),
             ("Conversation", "gives expected"), ("Examples", "cases"), ("CoatingShop", "story"), ("Fab", "asked-in expected-in fab"),
-            ("Relay", "relay")) for name in names.split()], CALLS),
+            ("Relay", "relay"), ("Mailboxes", "given-in expected-of boxed-cases")) for name in names.split()], CALLS),
 ]
 
 

@@ -2,7 +2,7 @@
 """The static library is x86-64 code. On an x86-64 machine tests and benchmark link it; on an Arm machine this tool builds what they
 need to reach it under the proof kit's emulator, with the kit's own compiler, linker and C library.
 
-    tools/x86.py bridge        target/bridge/libboard.a: the four C calls for this machine's programs, handed on to an emulated process
+    tools/x86.py bridge        target/bridge/libboard.a: the five C calls for this machine's programs, handed on to an emulated process
                                that has target/staticlib/libboard.a (see bridge/)
     tools/x86.py bridge LIB    the same for another static library
 
@@ -98,7 +98,7 @@ def rival_object(out):
 
 
 def bridge(library):
-    """An emulated process with the x86-64 library, and the four C calls for this machine that hand on to it."""
+    """An emulated process with the x86-64 library, and the five C calls for this machine that hand on to it."""
     folder = os.path.join(TOP, "target", "bridge")
     os.makedirs(folder, exist_ok=True)
     path = lambda name: os.path.join(folder, name)

@@ -1,21 +1,23 @@
 //! The kinds of call that are measured. A kind may occur several times, for each row that it can be tried on; the greatest counts.
 
-use board_tests::board::Memory;
-use board_tests::model;
+use board_tests::board::{mailbox_with, Memory, EIGHT, MAILBOX};
+use board_tests::independent::Model;
+use board_tests::model::{self, fault::Sound};
 use board_tests::plain::{bits_of, bytes_of, lines, Line, Plain};
-use board_tests::trace::{Op, Style, Trace};
+use board_tests::trace::{apply, Op, Style, Trace};
 
 #[derive(Clone)]
 pub enum Call {
-    PowerUp,
+    PowerUp(u32),
     Message(u32, [u8; 8]),
+    Mailbox([u8; 128]),
     Sample(f32, u8, u32, u32),
     Image,
 }
 
 pub struct Kind {
     pub name: String,
-    /// "message" for a message that is no command, "command", "sample", "image", "power-up", "sequence" for several messages,
+    /// "message" and "mailbox" for one that is no command, "command", "sample", "image", "power-up", "sequence" for several messages,
     /// "trace" for many calls of all sorts.
     pub family: &'static str,
     pub memory: Memory,
@@ -34,8 +36,20 @@ fn prepare(memory: &mut Memory, messages: &[[u8; 8]]) {
 
 fn fresh() -> Memory {
     let mut memory = Memory::zero();
-    model::power_up(&mut memory.values, &memory.block, &mut memory.state);
+    model::power_up(EIGHT, &mut memory.values, &memory.block, &mut memory.state);
     memory
+}
+
+/// The same memory with line 0 in the mailbox form.
+fn by_mailbox(memory: &Memory) -> Memory {
+    let mut memory = memory.clone();
+    memory.state[196] = 1;
+    memory
+}
+
+/// Serves SDOs by mailbox on a memory, uncounted.
+fn prepare_mailbox(memory: &mut Memory, sdo: &[u8]) {
+    model::mailbox(&mailbox_with(sdo), &mut memory.values, &mut memory.block, &mut memory.state, &mut [0; 128]);
 }
 
 fn opening(first: u8, line: &Line, rest: [u8; 4]) -> [u8; 8] {
@@ -79,6 +93,18 @@ fn card(levels: [f32; 8]) -> Vec<u8> {
     bytes_of(&bits)
 }
 
+/// The opening of a write by mailbox that announces a length and carries bytes.
+fn carrying(line: &Line, length: usize, bytes: &[u8]) -> Vec<u8> {
+    let mut sdo = opening(0x21, line, (length as u32).to_le_bytes()).to_vec();
+    sdo.extend(bytes);
+    sdo
+}
+
+/// A write by one mailbox.
+fn whole(line: &Line, bytes: &[u8]) -> Vec<u8> {
+    carrying(line, bytes.len(), bytes)
+}
+
 struct List(Vec<Kind>);
 
 impl List {
@@ -88,6 +114,10 @@ impl List {
 
     fn one(&mut self, name: &str, family: &'static str, memory: &Memory, message: [u8; 8], repeats: bool) {
         self.add(name, family, memory, vec![Call::Message(0, message)], repeats);
+    }
+
+    fn post(&mut self, name: &str, family: &'static str, memory: &Memory, sdo: &[u8], repeats: bool) {
+        self.add(name, family, memory, vec![Call::Mailbox(mailbox_with(sdo))], repeats);
     }
 
     /// Each message of a dialogue by itself: the opening, the parts between, the last.
@@ -251,7 +281,7 @@ pub fn kinds() -> Vec<Kind> {
     let blocks =
         [("zero block", &fresh), ("good block", &stored), ("block faulty at its end", &damaged), ("crossed block", &crossed)];
     for (name, memory) in blocks {
-        list.add(&format!("power-up, {name}"), "power-up", memory, vec![Call::PowerUp], true);
+        list.add(&format!("power-up, {name}"), "power-up", memory, vec![Call::PowerUp(EIGHT)], true);
     }
 
     for pressure in [0.0, 0.1, 0.25, 1.0, 3.0, 1e-9] {
@@ -266,21 +296,16 @@ pub fn kinds() -> Vec<Kind> {
 
     // each step of some random traces, so that nothing dear is overlooked
     for seed in 1..=4 {
-        let trace = Trace::random(1000 + seed, Style::FromPowerUp);
+        let trace = Trace::random(1000 + seed, Style::FromPowerUp, EIGHT);
         let mut memory = trace.memory.clone();
-        model::power_up(&mut memory.values, &memory.block, &mut memory.state);
+        model::power_up(EIGHT, &mut memory.values, &memory.block, &mut memory.state);
         for op in trace.ops {
             match op {
                 Op::Message { line, message, .. } => {
                     let before = memory.clone();
                     let mut answer = [0; 8];
                     model::message(line, &message, &mut memory.values, &mut memory.block, &mut memory.state, &mut answer);
-                    // what may be the last message of a command
-                    let sends = message[2] == 0xFB && message[0] >> 5 == 1;
-                    let record = &before.state[96 * line as usize..][..70];
-                    let row = u16::from_le_bytes([record[64], record[65]]) as usize;
-                    let ends = message[0] >> 5 == 0 && table.get(row).is_some_and(|l| l.kind == "COMMAND");
-                    if !sends && !ends {
+                    if !may_command(&message, &before.state[96 * line as usize..][..70], &table) {
                         list.add("any message of a random trace", "message", &before, vec![Call::Message(line, message)], false);
                     }
                 }
@@ -300,22 +325,111 @@ pub fn kinds() -> Vec<Kind> {
         }
     }
 
+    mailboxes(&mut list, &table, &fresh, &stored, &good_card);
+
     // whole traces in a row, for the time of an average call
-    let mut calls = Vec::new();
-    for seed in 1..=40 {
-        for op in Trace::random(seed, Style::FromPowerUp).ops {
-            match op {
-                Op::PowerUp => calls.push(Call::PowerUp),
-                Op::Message { line, message, .. } => calls.push(Call::Message(line, message)),
-                Op::Sample { pressure, valid, faults, seconds } => {
-                    calls.push(Call::Sample(f32::from_bits(pressure), valid, faults, seconds))
-                }
-                Op::Image { .. } => calls.push(Call::Image),
-                _ => (),
+    for (form, name) in [(EIGHT, "random traces"), (MAILBOX, "mailbox traces")] {
+        let calls: Vec<Call> =
+            (1..=40).flat_map(|seed| Trace::random(seed, Style::FromPowerUp, form).ops).filter_map(call_of).collect();
+        list.add(&format!("{} calls of {name}", calls.len()), "trace", &fresh, calls, true);
+    }
+    list.0
+}
+
+/// A step of a trace as a call, if it is one with right lengths.
+fn call_of(op: Op) -> Option<Call> {
+    Some(match op {
+        Op::PowerUp { form } => Call::PowerUp(form),
+        Op::Message { line, message, .. } => Call::Message(line, message),
+        Op::Mailbox { mailbox, .. } => Call::Mailbox(mailbox.try_into().ok()?),
+        Op::Sample { pressure, valid, faults, seconds } => Call::Sample(f32::from_bits(pressure), valid, faults, seconds),
+        Op::Image { .. } => Call::Image,
+        _ => return None,
+    })
+}
+
+/// The kinds of mailbox. `stored` has all sides enabled.
+fn mailboxes(list: &mut List, table: &[Line], fresh: &Memory, stored: &Memory, good_card: &[u8]) {
+    let find = |index: u16, sub: u8| table.iter().find(|l| l.index == index && l.sub == sub).unwrap();
+    let (the_card, label, lock) = (find(0x2010, 0), find(0x2001, 0), find(0x2003, 0));
+    let (fresh, stored) = (by_mailbox(fresh), by_mailbox(stored));
+    for memory in [&fresh, &stored] {
+        list.post("card read by one mailbox", "mailbox", memory, &opening(0x40, the_card, [0; 4]), true);
+    }
+    list.post("label read by one mailbox", "mailbox", &fresh, &opening(0x40, label, [0; 4]), true);
+    list.post("label write by one mailbox", "mailbox", &fresh, &whole(label, &[0x41; 32]), true);
+    list.post("card write by one mailbox", "mailbox", &fresh, &whole(the_card, good_card), true);
+    let crossed = card([2.0, 0.5, 0.25, 0.125, 20.0, 5.0, 20.0, 0.0625]);
+    list.post("card write by one mailbox, crossed", "mailbox", &fresh, &whole(the_card, &crossed), true);
+
+    for line in table {
+        let name = if line.length <= 4 { "short read by mailbox" } else { "long read by mailbox" };
+        list.post(name, "mailbox", &fresh, &opening(0x40, line, [0; 4]), true);
+        list.post(
+            "refused read by mailbox",
+            "mailbox",
+            &fresh,
+            &opening(0x40, &Line { sub: 0xFE, ..line.clone() }, [0; 4]),
+            true,
+        );
+        if line.access == "RO" || line.kind == "COMMAND" {
+            continue;
+        }
+        let value = if line.kind == "CARD" { good_card.to_vec() } else { line.default() };
+        list.post("whole write by mailbox", "mailbox", &fresh, &whole(line, &value), true);
+        if line.length <= 4 {
+            list.post("expedited write by mailbox", "mailbox", &fresh, &write(line, &value)[0], true);
+        }
+        let half = line.length / 2;
+        let first = carrying(line, line.length, &value[..half]);
+        list.post("write by opening and part, opening", "mailbox", &fresh, &first, true);
+        let mut opened = fresh.clone();
+        prepare_mailbox(&mut opened, &first);
+        let mut part = vec![(7 - (line.length - half).min(7) as u8) << 1 | 1];
+        part.extend(&value[half..]);
+        part.resize(part.len().max(8), 0);
+        list.post("write by opening and part, last part", "mailbox", &opened, &part, false);
+    }
+    for line in table.iter().filter(|line| matches!(line.index, 0x800E | 0x800F)) {
+        let value = &stored.values[line.place.unwrap()..][..line.length];
+        list.post("trip entry write by mailbox", "mailbox", &stored, &write(line, value)[0], true);
+    }
+
+    let mut locked = fresh.clone();
+    prepare_mailbox(&mut locked, &write(lock, &[1])[0]);
+    list.post("card write by one mailbox under lock", "mailbox", &locked, &whole(the_card, good_card), true);
+    list.post("client's abort by mailbox", "mailbox", &fresh, &[0x80, 0, 0, 0, 0, 0, 0, 0], true);
+    list.post("part by mailbox with no transfer", "mailbox", &fresh, &[0x60, 0, 0, 0, 0, 0, 0, 0], true);
+    list.post("device reset by one mailbox", "command", &stored, &whole(find(0xFBF0, 1), b"teser\0"), true);
+    list.post("exception reset by one mailbox", "command", &stored, &whole(find(0xFBF1, 1), b"teser"), true);
+    list.post("load by one mailbox", "command", &stored, &whole(find(0xFBF4, 1), b"load"), true);
+    list.post("store by one mailbox", "command", &stored, &whole(find(0xFBF2, 1), b"save"), true);
+
+    for seed in 1..=4 {
+        let trace = Trace::random(1000 + seed, Style::FromPowerUp, MAILBOX);
+        let mut memory = trace.memory.clone();
+        for op in trace.ops {
+            let before = memory.clone();
+            apply(&op, &mut Model(Sound), &mut memory);
+            let Op::Mailbox { mailbox, .. } = op else {
+                continue;
+            };
+            let Ok(mailbox) = <[u8; 128]>::try_from(mailbox) else {
+                continue;
+            };
+            if !may_command(&mailbox[8..16], &before.state[..70], table) {
+                list.add("any mailbox of a random trace", "mailbox", &before, vec![Call::Mailbox(mailbox)], false);
             }
         }
     }
-    let name = format!("{} calls of random traces", calls.len());
-    list.add(&name, "trace", &fresh, calls, true);
-    list.0
+}
+
+/// Whether a message may be the last of a command.
+fn may_command(message: &[u8], record: &[u8], table: &[Line]) -> bool {
+    let row = u16::from_le_bytes([record[64], record[65]]) as usize;
+    match message[0] >> 5 {
+        0 => table.get(row).is_some_and(|line| line.kind == "COMMAND"),
+        1 => message[2] == 0xFB,
+        _ => false,
+    }
 }

@@ -19,19 +19,25 @@ fn main() -> std::io::Result<()> {
         out.write_all(&kind.memory.block)?;
         out.write_all(&kind.memory.state)?;
         for call in &kind.calls {
-            let (number, words, message) = match *call {
-                Call::PowerUp => (0, [0; 4], [0; 8]),
-                Call::Message(line, message) => (1, [line, 0, 0, 0], message),
-                Call::Sample(pressure, valid, faults, seconds) => {
-                    (2, [pressure.to_bits(), valid as u32, faults, seconds], [0; 8])
+            let mut bytes = [0; 128];
+            let (number, words) = match *call {
+                Call::PowerUp(form) => (0, [form, 0, 0, 0]),
+                Call::Message(line, message) => {
+                    bytes[..8].copy_from_slice(&message);
+                    (1, [line, 0, 0, 0])
                 }
-                Call::Image => (3, [0; 4], [0; 8]),
+                Call::Sample(pressure, valid, faults, seconds) => (2, [pressure.to_bits(), valid as u32, faults, seconds]),
+                Call::Image => (3, [0; 4]),
+                Call::Mailbox(mailbox) => {
+                    bytes = mailbox;
+                    (4, [0; 4])
+                }
             };
             out.write_all(&u32::to_le_bytes(number))?;
             for word in words {
                 out.write_all(&word.to_le_bytes())?;
             }
-            out.write_all(&message)?;
+            out.write_all(&bytes)?;
         }
     }
     out.flush()

@@ -28,8 +28,16 @@ unsafe fn shown<'a>(bytes: *const u8, len: usize) -> &'a [u8] {
 /// # Safety
 /// As include/gauge.h says.
 #[no_mangle]
-pub unsafe extern "C" fn rival_power_up(values: *mut u8, v: usize, block: *const u8, b: usize, state: *mut u8, s: usize) -> u32 {
-    model::power_up(lent(values, v), shown(block, b), lent(state, s))
+pub unsafe extern "C" fn rival_power_up(
+    form: u32,
+    values: *mut u8,
+    v: usize,
+    block: *const u8,
+    b: usize,
+    state: *mut u8,
+    s: usize,
+) -> u32 {
+    model::power_up(form, lent(values, v), shown(block, b), lent(state, s))
 }
 
 /// # Safety
@@ -49,6 +57,24 @@ pub unsafe extern "C" fn rival_message(
     a: usize,
 ) -> u32 {
     model::message(line, shown(message, m), lent(values, v), lent(block, b), lent(state, s), lent(answer, a))
+}
+
+/// # Safety
+/// As include/gauge.h says.
+#[no_mangle]
+pub unsafe extern "C" fn rival_mailbox(
+    mailbox: *const u8,
+    m: usize,
+    values: *mut u8,
+    v: usize,
+    block: *mut u8,
+    b: usize,
+    state: *mut u8,
+    s: usize,
+    answer: *mut u8,
+    a: usize,
+) -> u32 {
+    model::mailbox(shown(mailbox, m), lent(values, v), lent(block, b), lent(state, s), lent(answer, a))
 }
 
 /// # Safety

@@ -5,6 +5,7 @@ use crate::board::Board;
 
 extern "C" {
     fn gauge_power_up(
+        form: u32,
         values: *mut u8,
         values_len: usize,
         block: *const u8,
@@ -17,6 +18,19 @@ extern "C" {
         line: u32,
         message: *const u8,
         message_len: usize,
+        values: *mut u8,
+        values_len: usize,
+        block: *mut u8,
+        block_len: usize,
+        state: *mut u8,
+        state_len: usize,
+        answer: *mut u8,
+        answer_len: usize,
+    ) -> u32;
+
+    fn gauge_mailbox(
+        mailbox: *const u8,
+        mailbox_len: usize,
         values: *mut u8,
         values_len: usize,
         block: *mut u8,
@@ -41,12 +55,12 @@ extern "C" {
     fn gauge_image(values: *const u8, values_len: usize, image: *mut u8, image_len: usize) -> u32;
 }
 
-/// The four calls with nothing round them, for measurements.
+/// The five calls with nothing round them, for measurements.
 pub mod bare {
-    pub fn power_up(values: &mut [u8], block: &[u8], state: &mut [u8]) -> u32 {
+    pub fn power_up(form: u32, values: &mut [u8], block: &[u8], state: &mut [u8]) -> u32 {
         let (v, s) = (values.len(), state.len());
         // SAFETY: each pointer comes with its slice's length, and the slices do not overlap
-        unsafe { super::gauge_power_up(values.as_mut_ptr(), v, block.as_ptr(), block.len(), state.as_mut_ptr(), s) }
+        unsafe { super::gauge_power_up(form, values.as_mut_ptr(), v, block.as_ptr(), block.len(), state.as_mut_ptr(), s) }
     }
 
     pub fn message(line: u32, message: &[u8], values: &mut [u8], block: &mut [u8], state: &mut [u8], answer: &mut [u8]) -> u32 {
@@ -57,6 +71,25 @@ pub mod bare {
                 line,
                 message.as_ptr(),
                 message.len(),
+                values.as_mut_ptr(),
+                v,
+                block.as_mut_ptr(),
+                b,
+                state.as_mut_ptr(),
+                s,
+                answer.as_mut_ptr(),
+                a,
+            )
+        }
+    }
+
+    pub fn mailbox(mailbox: &[u8], values: &mut [u8], block: &mut [u8], state: &mut [u8], answer: &mut [u8]) -> u32 {
+        let (v, b, s, a) = (values.len(), block.len(), state.len(), answer.len());
+        // SAFETY: each pointer comes with its slice's length, and the slices do not overlap
+        unsafe {
+            super::gauge_mailbox(
+                mailbox.as_ptr(),
+                mailbox.len(),
                 values.as_mut_ptr(),
                 v,
                 block.as_mut_ptr(),
@@ -167,13 +200,13 @@ impl Default for Exported {
 }
 
 impl Board for Exported {
-    fn power_up(&mut self, values: &mut [u8], block: &[u8], state: &mut [u8]) -> u32 {
+    fn power_up(&mut self, form: u32, values: &mut [u8], block: &[u8], state: &mut [u8]) -> u32 {
         let shift = self.shift();
         let [v, b, s, ..] = &mut self.buffers;
         v.lay(values, shift);
         b.lay(block, shift);
         s.lay(state, shift);
-        let number = bare::power_up(v.slice(), b.slice(), s.slice());
+        let number = bare::power_up(form, v.slice(), b.slice(), s.slice());
         v.take(values, "values");
         b.same(block, "block");
         s.take(state, "state");
@@ -198,6 +231,23 @@ impl Board for Exported {
         a.lay(answer, shift);
         let number = bare::message(line, m.slice(), v.slice(), b.slice(), s.slice(), a.slice());
         m.same(message, "message");
+        v.take(values, "values");
+        b.take(block, "block");
+        s.take(state, "state");
+        a.take(answer, "answer");
+        number
+    }
+
+    fn mailbox(&mut self, mailbox: &[u8], values: &mut [u8], block: &mut [u8], state: &mut [u8], answer: &mut [u8]) -> u32 {
+        let shift = self.shift();
+        let [v, b, s, m, a] = &mut self.buffers;
+        m.lay(mailbox, shift);
+        v.lay(values, shift);
+        b.lay(block, shift);
+        s.lay(state, shift);
+        a.lay(answer, shift);
+        let number = bare::mailbox(m.slice(), v.slice(), b.slice(), s.slice(), a.slice());
+        m.same(mailbox, "mailbox");
         v.take(values, "values");
         b.take(block, "block");
         s.take(state, "state");

@@ -473,6 +473,31 @@ enum Open {
     Write { index: u16, sub: u8, length: Length, sent: Vec<u8> },
 }
 
+/// The SDO of a mailbox: the bytes that its length field counts, less the CoE header.
+fn sdo_of(mailbox: &[u8]) -> Result<&[u8], String> {
+    let counted = mailbox.get(..2).map_or(0, little_endian) as usize;
+    mailbox.get(8..6 + counted).filter(|sdo| sdo.len() >= 8).ok_or(format!("length field of {mailbox:02X?}"))
+}
+
+/// The bytes of the value that a part brings: of eight bytes it says how many are unused.
+fn part_of(sdo: &[u8]) -> &[u8] {
+    match sdo.len() {
+        8 => &sdo[1..8 - (sdo[0] >> 1 & 7) as usize],
+        _ => &sdo[1..],
+    }
+}
+
+/// The length that the opening of a write names, and the bytes of the value in it.
+fn opened(message: &[u8]) -> (Length, Vec<u8>) {
+    let unused = (message[0] >> 2 & 3) as usize;
+    match (message[0] & 2 != 0, message[0] & 1 != 0) {
+        (true, true) => (Length::Is(4 - unused as u32), message[4..8 - unused].to_vec()),
+        (true, false) => (Length::Own, message[4..8].to_vec()),
+        (false, true) => (Length::Is(little_endian(&message[4..8]) as u32), message[8..].to_vec()),
+        (false, false) => (Length::Unknown, message[8..].to_vec()),
+    }
+}
+
 /// Sees messages and answers alone.
 pub struct Observer {
     lines: [Open; 2],
@@ -497,8 +522,30 @@ impl Observer {
         self.events.push((self.time, Event::Sample { pressure, valid, faults, seconds }));
     }
 
-    /// A message with its answer; `None` where none was given. An answer that no board may give is an error.
+    /// A message of eight bytes with its answer; `None` where none was given. An answer that no board may give is an error.
     pub fn message(&mut self, line: usize, message: &[u8; 8], answer: Option<&[u8; 8]>) -> Result<(), String> {
+        self.exchange(line, message, answer.map(|answer| &answer[..]))
+    }
+
+    /// A mailbox on line 0 with its answer of 128 bytes.
+    pub fn mailbox(&mut self, mailbox: &[u8], answer: Option<&[u8]>) -> Result<(), String> {
+        let answered = answer.map(|answer| {
+            let sdo = sdo_of(answer)?;
+            let service = if sdo[0] == 0x80 { 2 } else { 3 };
+            let addressed = answer[2..4] == mailbox[2..4] && answer[5] >> 4 == mailbox[5] >> 4 & 7;
+            let plain = answer[4] == 0 && answer[5] & 0x0F == 3 && little_endian(&answer[6..8]) == service << 12;
+            let empty = answer[8 + sdo.len()..].iter().all(|&byte| byte == 0);
+            if addressed && plain && empty && answer.len() == 128 {
+                Ok(sdo)
+            } else {
+                Err(format!("headers or end of the answer {answer:02X?} to {mailbox:02X?}"))
+            }
+        });
+        self.exchange(0, sdo_of(mailbox)?, answered.transpose()?)
+    }
+
+    /// An SDO request with the SDO of its answer: eight bytes each, or more in a mailbox.
+    fn exchange(&mut self, line: usize, message: &[u8], answer: Option<&[u8]>) -> Result<(), String> {
         self.time += 1;
         let now = self.time;
         let was = std::mem::replace(&mut self.lines[line], Open::Nothing);
@@ -507,35 +554,41 @@ impl Observer {
             return if specifier == 4 { Ok(()) } else { Err("no answer".to_string()) };
         };
         let (index, sub) = (u16::from_le_bytes([message[1], message[2]]), message[3]);
-        let code = u32::from_le_bytes([answer[4], answer[5], answer[6], answer[7]]);
+        let code = little_endian(&answer[4..8]) as u32;
         let aborted = answer[0] == 0x80;
         // the two codes that stand before 06020000 only drop a transfer
         let drops = aborted && matches!(code, 0x0504_0001 | 0x0503_0000);
-        let strange = Err(format!("answer {answer:02X?} to {message:02X?}"));
+        let strange = || Err(format!("answer {answer:02X?} to {message:02X?}"));
+        // only what a read gives is longer than eight bytes
+        if answer.len() > 8 && !matches!(specifier, 2 | 3) {
+            return strange();
+        }
         if drops {
-            return if matches!(specifier, 1 | 2 | 4) { strange } else { Ok(()) };
+            return if matches!(specifier, 1 | 2 | 4) { strange() } else { Ok(()) };
         }
         match (specifier, was) {
             (2, _) => {
-                if answer[1..4] != message[1..4] {
-                    return strange;
+                if answer[1..4] != message[1..4] || answer[0] != 0x41 && answer.len() > 8 {
+                    return strange();
                 }
                 let outcome = match answer[0] {
                     0x80 => Err(code),
                     0x4F | 0x4B | 0x47 | 0x43 => Ok(answer[4..8 - (answer[0] >> 2 & 3) as usize].to_vec()),
-                    0x41 => {
-                        self.lines[line] = Open::Read { at: now, index, sub, got: Vec::new() };
+                    // the length stands where a code does
+                    0x41 if answer.len() - 8 == code as usize => Ok(answer[8..].to_vec()),
+                    0x41 if answer.len() - 8 < code as usize => {
+                        self.lines[line] = Open::Read { at: now, index, sub, got: answer[8..].to_vec() };
                         return Ok(());
                     }
-                    _ => return strange,
+                    _ => return strange(),
                 };
                 self.events.push((now, Event::Read { index, sub, outcome }));
             }
             (3, Open::Read { at, index, sub, mut got }) => {
                 if answer[0] >> 5 != 0 || (answer[0] ^ message[0]) & 0x10 != 0 {
-                    return strange;
+                    return strange();
                 }
-                got.extend(&answer[1..8 - (answer[0] >> 1 & 7) as usize]);
+                got.extend(part_of(answer));
                 if answer[0] & 1 == 0 {
                     self.lines[line] = Open::Read { at, index, sub, got };
                 } else {
@@ -544,39 +597,35 @@ impl Observer {
             }
             (1, _) => {
                 if answer[1..4] != message[1..4] || !aborted && answer[0] != 0x60 {
-                    return strange;
+                    return strange();
                 }
-                let (expedited, sized) = (message[0] & 2 != 0, message[0] & 1 != 0);
-                let unused = (message[0] >> 2 & 3) as usize;
-                let (length, sent) = match (expedited, sized) {
-                    (true, true) => (Length::Is(4 - unused as u32), message[4..8 - unused].to_vec()),
-                    (true, false) => (Length::Own, message[4..8].to_vec()),
-                    (false, true) => {
-                        (Length::Is(u32::from_le_bytes([message[4], message[5], message[6], message[7]])), Vec::new())
-                    }
-                    (false, false) => (Length::Unknown, Vec::new()),
+                let (length, sent) = opened(message);
+                let ended = match length {
+                    Length::Is(n) => n as usize <= sent.len(),
+                    Length::Own => true,
+                    Length::Unknown => false,
                 };
                 if aborted {
                     self.events.push((now, Event::Write { index, sub, length, sent, outcome: Err(code) }));
-                } else if expedited {
+                } else if ended {
                     self.events.push((now, Event::Write { index, sub, length, sent, outcome: Ok(()) }));
                 } else {
                     self.lines[line] = Open::Write { index, sub, length, sent };
                 }
             }
             (0, Open::Write { index, sub, length, mut sent }) => {
-                sent.extend(&message[1..8 - (message[0] >> 1 & 7) as usize]);
+                sent.extend(part_of(message));
                 if aborted {
                     self.events.push((now, Event::Write { index, sub, length, sent, outcome: Err(code) }));
                 } else if answer[0] != 0x20 | message[0] & 0x10 {
-                    return strange;
+                    return strange();
                 } else if message[0] & 1 == 1 {
                     self.events.push((now, Event::Write { index, sub, length, sent, outcome: Ok(()) }));
                 } else {
                     self.lines[line] = Open::Write { index, sub, length, sent };
                 }
             }
-            _ => return strange,
+            _ => return strange(),
         }
         Ok(())
     }

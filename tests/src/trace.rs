@@ -1,6 +1,6 @@
 //! Random traces with fixed seeds, two boards compared on them, and the shortest trace that shows a difference.
 
-use crate::board::{hex, Board, Memory};
+use crate::board::{hex, Board, Memory, ADDRESS, EIGHT, MAILBOX};
 use crate::plain::{self, bits_of, bytes_of, lines, Line, Plain};
 use crate::random::Random;
 use std::collections::{BTreeMap, VecDeque};
@@ -18,10 +18,17 @@ pub enum Part {
 /// One step of a trace.
 #[derive(Clone, Debug)]
 pub enum Op {
-    PowerUp,
+    PowerUp {
+        form: u32,
+    },
     Message {
         line: u32,
         message: [u8; 8],
+        room: usize,
+    },
+    /// On line 0.
+    Mailbox {
+        mailbox: Vec<u8>,
         room: usize,
     },
     Sample {
@@ -39,7 +46,8 @@ pub enum Op {
         at: usize,
         bytes: Vec<u8>,
     },
-    /// A call with lengths that may be wrong; `sizes` are those of values, block and state.
+    /// A call with lengths that may be wrong; `sizes` are those of values, block and state. The line is a power-up's form and a
+    /// sample's faults, the message may be a mailbox.
     Odd {
         call: u8,
         line: u32,
@@ -52,7 +60,7 @@ pub enum Op {
 impl Op {
     /// Whether it counts as a message or sample.
     pub fn is_counted(&self) -> bool {
-        matches!(self, Op::Message { .. } | Op::Sample { .. })
+        matches!(self, Op::Message { .. } | Op::Mailbox { .. } | Op::Sample { .. })
     }
 }
 
@@ -73,6 +81,10 @@ pub enum Style {
 }
 
 const ROOM: u8 = 0xC3;
+/// The state's byte with the form of line 0.
+const FORM: usize = 196;
+/// The client's abort.
+const ABORT: [u8; 8] = [0x80, 0, 0, 0, 0, 0, 0, 0];
 
 /// A room for answers and images, filled before each call.
 fn room(size: usize) -> Vec<u8> {
@@ -83,10 +95,15 @@ fn room(size: usize) -> Vec<u8> {
 pub fn apply(op: &Op, board: &mut dyn Board, memory: &mut Memory) -> (u32, Vec<u8>) {
     let m = memory;
     match op {
-        Op::PowerUp => (board.power_up(&mut m.values, &m.block, &mut m.state), Vec::new()),
+        Op::PowerUp { form } => (board.power_up(*form, &mut m.values, &m.block, &mut m.state), Vec::new()),
         Op::Message { line, message, room: size } => {
             let mut answer = room(*size);
             let number = board.message(*line, message, &mut m.values, &mut m.block, &mut m.state, &mut answer);
+            (number, answer)
+        }
+        Op::Mailbox { mailbox, room: size } => {
+            let mut answer = room(*size);
+            let number = board.mailbox(mailbox, &mut m.values, &mut m.block, &mut m.state, &mut answer);
             (number, answer)
         }
         Op::Sample { pressure, valid, faults, seconds } => {
@@ -115,9 +132,10 @@ pub fn apply(op: &Op, board: &mut dyn Board, memory: &mut Memory) -> (u32, Vec<u
                 (sized(&m.values, sizes[0]), sized(&m.block, sizes[1]), sized(&m.state, sizes[2]));
             let mut answer = room(*size);
             let number = match call {
-                0 => board.power_up(&mut values, &block, &mut state),
+                0 => board.power_up(*line, &mut values, &block, &mut state),
                 1 => board.message(*line, message, &mut values, &mut block, &mut state, &mut answer),
                 2 => board.sample(0.5, 1, *line, 7, &mut values, &mut state),
+                4 => board.mailbox(message, &mut values, &mut block, &mut state, &mut answer),
                 _ => board.image(&values, &mut answer),
             };
             // what lies behind the memory's own size is looked at as well
@@ -199,11 +217,15 @@ pub fn shrink(trace: &Trace, mut differs: impl FnMut(&Trace) -> Option<usize>) -
     }
 }
 
+/// The calls by the numbers that `Op::Odd` has.
+const CALLS: [&str; 5] = ["power-up", "message", "sample", "image", "mailbox"];
+
 impl fmt::Display for Op {
     fn fmt(&self, f: &mut fmt::Formatter) -> fmt::Result {
         match self {
-            Op::PowerUp => write!(f, "power-up"),
+            Op::PowerUp { form } => write!(f, "power-up in form {form}"),
             Op::Message { line, message, room } => write!(f, "message on line {line}: {} (room {room})", hex(message)),
+            Op::Mailbox { mailbox, room } => write!(f, "mailbox of {} bytes: {} (room {room})", mailbox.len(), hex(mailbox)),
             Op::Sample { pressure, valid, faults, seconds } => {
                 let p = f32::from_bits(*pressure);
                 write!(f, "sample: pressure {pressure:08X} ({p:e}), valid {valid}, faults {faults:08X}, seconds {seconds}")
@@ -213,7 +235,7 @@ impl fmt::Display for Op {
             Op::Odd { call, line, message, sizes, room } => write!(
                 f,
                 "call of {}: line {line}, message {}, values, block, state of {sizes:?} bytes, room {room}",
-                ["power-up", "message", "sample", "image"][*call as usize & 3],
+                CALLS[*call as usize],
                 hex(message)
             ),
         }
@@ -282,12 +304,21 @@ const EDGE: [u32; 7] = [
 /// The bits of a fault word that a sample keeps.
 const KEPT: u32 = 1 << 0 | 1 << 1 | 1 << 9 | 1 << 10;
 
+/// A message: eight bytes, or up to 120 that go into a mailbox.
+type Sdo = Vec<u8>;
+
 /// Makes the steps of one trace.
 struct Maker {
     r: Random,
     style: Style,
+    /// The form of line 0 at this step, as the state's byte has it.
+    form: u8,
+    /// Whether the messages that are made go into mailboxes.
+    long: bool,
+    /// The counter of the last mailbox.
+    counter: u8,
     /// Messages that each line is about to send.
-    queues: [VecDeque<[u8; 8]>; 2],
+    queues: [VecDeque<Sdo>; 2],
     reals: [u32; 4],
     ops: Vec<Op>,
     seconds: u32,
@@ -414,9 +445,9 @@ impl Maker {
         word
     }
 
-    fn opening(first: u8, line: &Line, rest: [u8; 4]) -> [u8; 8] {
+    fn opening(first: u8, line: &Line, rest: [u8; 4]) -> Sdo {
         let [low, high] = line.index.to_le_bytes();
-        [first, low, high, line.sub, rest[0], rest[1], rest[2], rest[3]]
+        vec![first, low, high, line.sub, rest[0], rest[1], rest[2], rest[3]]
     }
 
     /// Bits and bytes without meaning, now and then.
@@ -428,20 +459,33 @@ impl Maker {
         }
     }
 
-    fn read(&mut self, line: &Line) -> Vec<[u8; 8]> {
+    /// Bytes behind a message that no rule names, now and then.
+    fn junk_behind(&mut self, sdo: &mut Sdo) {
+        if self.r.chance(100) {
+            let count = self.r.below(113);
+            sdo.extend(self.r.bytes(count));
+        }
+    }
+
+    fn read(&mut self, line: &Line) -> Vec<Sdo> {
         let rest = self.junk4();
         let low = if self.r.chance(50) { self.r.below(32) as u8 } else { 0 };
         let mut script = vec![Maker::opening(0x40 | low, line, rest)];
-        if line.length > 4 {
+        if self.long {
+            self.junk_behind(&mut script[0]);
+            if self.r.chance(60) {
+                self.read_parts(1, 0, &mut script);
+            }
+        } else if line.length > 4 {
             let parts = line.length.div_ceil(7) + self.r.chance(40) as usize;
             self.read_parts(parts, 0, &mut script);
         }
         script
     }
 
-    fn read_parts(&mut self, count: usize, toggle: usize, script: &mut Vec<[u8; 8]>) {
+    fn read_parts(&mut self, count: usize, toggle: usize, script: &mut Vec<Sdo>) {
         for n in 0..count {
-            let mut part = [0; 8];
+            let mut part = vec![0; 8];
             part[0] = 0x60 | (((toggle + n) % 2) as u8) << 4;
             if self.r.chance(60) {
                 part[0] |= self.r.below(16) as u8;
@@ -451,19 +495,31 @@ impl Maker {
         }
     }
 
-    fn write_parts(&mut self, bytes: &[u8], toggle: usize, script: &mut Vec<[u8; 8]>) {
+    /// How many bytes a part brings, if so many are left: in a mailbox any number.
+    fn part_size(&mut self, odd: bool) -> usize {
+        match (self.long, odd) {
+            (true, true) => self.r.below(30),
+            (true, false) => self.r.pick(&[7, 8, 119, 119]),
+            (false, true) => self.r.below(8),
+            (false, false) => 7,
+        }
+    }
+
+    fn write_parts(&mut self, bytes: &[u8], toggle: usize, script: &mut Vec<Sdo>) {
         let odd = self.r.chance(200);
         let mut at = 0;
         let mut n = toggle;
         let late = self.r.chance(40);
         loop {
-            let count = if odd { self.r.below(8) } else { 7 }.min(bytes.len() - at);
+            let count = self.part_size(odd).min(bytes.len() - at);
             let last = at + count == bytes.len() && !(late && n < toggle + 8);
-            let mut part = [0; 8];
+            let mut part = vec![0; 1 + count.max(7)];
             if self.r.chance(100) {
-                part.copy_from_slice(&self.r.bytes(8));
+                part = self.r.bytes(part.len());
             }
-            part[0] = ((n % 2) as u8) << 4 | (7 - count as u8) << 1 | last as u8;
+            // of more than seven bytes none can be unused, and the bits are not looked at
+            let unused = if count > 7 { self.r.pick(&[0, 0, 1, 7]) } else { 7 - count as u8 };
+            part[0] = ((n % 2) as u8) << 4 | unused << 1 | last as u8;
             part[1..1 + count].copy_from_slice(&bytes[at..at + count]);
             script.push(part);
             at += count;
@@ -472,13 +528,54 @@ impl Maker {
                 return;
             }
             if late && at == bytes.len() && self.r.chance(700) {
-                script.push([((n % 2) as u8) << 4 | 7 << 1 | 1, 0, 0, 0, 0, 0, 0, 0]);
+                script.push(vec![((n % 2) as u8) << 4 | 7 << 1 | 1, 0, 0, 0, 0, 0, 0, 0]);
                 return;
             }
         }
     }
 
-    fn write(&mut self, line: &Line, bytes: Vec<u8>) -> Vec<[u8; 8]> {
+    /// The length that an opening announces: mostly the entry's.
+    fn announced(&mut self, line: &Line, bytes: &[u8]) -> u32 {
+        match self.r.below(40) {
+            0 => 0,
+            1 => self.r.word(),
+            2 => line.length as u32 + 0x1_0000,
+            3 => line.length as u32 + 1,
+            4 => line.length as u32 - 1,
+            5 | 6 => bytes.len() as u32,
+            _ => line.length as u32,
+        }
+    }
+
+    /// A write by mailbox: the opening may carry all of it, some or more.
+    fn write_long(&mut self, line: &Line, bytes: &[u8]) -> Vec<Sdo> {
+        let sized = self.r.chance(750);
+        let mut sdo = if sized {
+            let announced = self.announced(line, bytes);
+            Maker::opening(0x21 | self.r.pick(&[0, 0, 0, 4, 8, 12, 16]), line, announced.to_le_bytes())
+        } else {
+            let rest = self.junk4();
+            Maker::opening(0x20 | self.r.pick(&[0, 0, 0, 4, 8, 12, 16]), line, rest)
+        };
+        let count = match self.r.below(10) {
+            0..=5 => bytes.len(),
+            6 => 0,
+            7 => bytes.len().saturating_sub(1),
+            _ => self.r.below(bytes.len() + 1),
+        };
+        sdo.extend(&bytes[..count]);
+        if self.r.chance(60) {
+            let surplus = self.r.pick(&[1, 1, 7, 60, 112]).min(120 - sdo.len());
+            sdo.extend(self.r.bytes(surplus));
+        }
+        let mut script = vec![sdo];
+        if !sized || count < bytes.len() || self.r.chance(40) {
+            self.write_parts(&bytes[count..], 0, &mut script);
+        }
+        script
+    }
+
+    fn write(&mut self, line: &Line, bytes: Vec<u8>) -> Vec<Sdo> {
         let mut bytes = bytes;
         if self.r.chance(60) {
             let wrong = match self.r.below(4) {
@@ -496,19 +593,18 @@ impl Maker {
             bytes.resize(count.max(bytes.len()), 0);
             rest[..count].copy_from_slice(&bytes[..count]);
             let first = if self.r.chance(250) { 0x22 | self.r.pick(&[0, 0, 4, 12]) } else { 0x23 | (4 - count as u8) << 2 };
-            return vec![Maker::opening(first, line, rest)];
+            let mut sdo = Maker::opening(first, line, rest);
+            if self.long {
+                self.junk_behind(&mut sdo);
+            }
+            return vec![sdo];
+        }
+        if self.long {
+            return self.write_long(line, &bytes);
         }
         let mut script = Vec::new();
         if form < 80 {
-            let announced = match self.r.below(40) {
-                0 => 0,
-                1 => self.r.word(),
-                2 => line.length as u32 + 0x1_0000,
-                3 => line.length as u32 + 1,
-                4 => line.length as u32 - 1,
-                5 | 6 => bytes.len() as u32,
-                _ => line.length as u32,
-            };
+            let announced = self.announced(line, &bytes);
             script.push(Maker::opening(0x21, line, announced.to_le_bytes()));
         } else {
             script.push(Maker::opening(0x20 | self.r.pick(&[0, 0, 0, 4, 8, 12, 16]), line, rest));
@@ -554,13 +650,13 @@ impl Maker {
     }
 
     /// A write of some value for an entry.
-    fn write_some(&mut self, line: &Line) -> Vec<[u8; 8]> {
+    fn write_some(&mut self, line: &Line) -> Vec<Sdo> {
         let value = self.value(line);
         self.write(line, value)
     }
 
     /// Levels and enables of one trip point, in any order.
-    fn write_point(&mut self) -> Vec<[u8; 8]> {
+    fn write_point(&mut self) -> Vec<Sdo> {
         let index = self.r.pick(&[0x800E, 0x800F]);
         let [(high_on, high), (low_on, low)] = self.sides();
         let mut entries = vec![
@@ -578,13 +674,13 @@ impl Maker {
     }
 
     /// A read of the summary byte or of a word beside it.
-    fn read_exceptions(&mut self) -> Vec<[u8; 8]> {
+    fn read_exceptions(&mut self) -> Vec<Sdo> {
         let (index, sub) = self.r.pick(&[(0xF380, 0), (0xF380, 0), (0xF383, 1), (0xF393, 1), (0xF3A3, 1), (0x9005, 2)]);
         self.read(Maker::find(index, sub))
     }
 
     /// A write that may work the summary byte out, and often a look at what it did.
-    fn write_and_look(&mut self, line: &Line) -> Vec<[u8; 8]> {
+    fn write_and_look(&mut self, line: &Line) -> Vec<Sdo> {
         let mut script = self.write_some(line);
         if self.r.chance(400) {
             script.extend(self.read_exceptions());
@@ -593,7 +689,7 @@ impl Maker {
     }
 
     /// What a line will say next.
-    fn script(&mut self) -> Vec<[u8; 8]> {
+    fn script(&mut self) -> Vec<Sdo> {
         let card = Maker::find(0x2010, 0);
         let label = Maker::find(0x2001, 0);
         match self.r.below(116) {
@@ -651,8 +747,8 @@ impl Maker {
                     self.write_some(&line)
                 }
             }
-            92..=93 => vec![[0x80, 0, 0, 0, 0, 0, 0, 0]],
-            94 => vec![[self.r.byte() | 0xA0, 1, 2, 3, 4, 5, 6, 7]],
+            92..=93 => vec![ABORT.to_vec()],
+            94 => vec![vec![self.r.byte() | 0xA0, 1, 2, 3, 4, 5, 6, 7]],
             95..=96 => {
                 let mut script = Vec::new();
                 self.read_parts(1, self.r.clone().below(2), &mut script);
@@ -680,11 +776,18 @@ impl Maker {
             105 | 106 => self.read_exceptions(),
             107..=114 => self.write_point(),
             _ => {
-                let mut message = [0; 8];
-                message.copy_from_slice(&self.r.bytes(8));
-                vec![message]
+                let mut sdo = self.r.bytes(8);
+                if self.long {
+                    self.junk_behind(&mut sdo);
+                }
+                vec![sdo]
             }
         }
+    }
+
+    /// Whether a line speaks in mailboxes.
+    fn is_long(&self, line: usize) -> bool {
+        line == 0 && self.form != 0
     }
 
     fn room(&mut self, least: usize) -> usize {
@@ -698,28 +801,104 @@ impl Maker {
     fn message(&mut self) {
         let mut line = self.r.below(2);
         if self.queues[line].is_empty() {
+            self.long = self.is_long(line);
             let script = self.script();
             self.queues[line].extend(script);
         }
         // often several in a row
         let burst = if self.r.chance(300) { 1 + self.r.below(4) } else { 1 };
         for _ in 0..burst {
-            let Some(mut message) = self.queues[line].pop_front() else {
+            let Some(mut sdo) = self.queues[line].pop_front() else {
                 return;
             };
             if self.r.chance(25) {
                 match self.r.below(8) {
-                    0 | 1 => message[0] ^= 0x10,
-                    2 => message[self.r.below(8)] ^= 1 << self.r.below(8),
+                    0 | 1 => sdo[0] ^= 0x10,
+                    2 => sdo[self.r.below(8)] ^= 1 << self.r.below(8),
                     3 => continue,
-                    4 => self.queues[line].push_front(message),
-                    5 => message[0] = self.r.byte(),
+                    4 => self.queues[line].push_front(sdo.clone()),
+                    5 => sdo[0] = self.r.byte(),
                     6 => line = 1 - line,
-                    _ => message = [0x80, 0, 0, 0, 0, 0, 0, 0],
+                    _ => sdo = ABORT.to_vec(),
                 }
             }
-            let room = self.room(8);
-            self.ops.push(Op::Message { line: line as u32, message, room });
+            if self.is_long(line) {
+                self.post(sdo);
+            } else {
+                self.say(line, &sdo);
+            }
+        }
+    }
+
+    fn say(&mut self, line: usize, sdo: &Sdo) {
+        let room = self.room(8);
+        // what was meant for a mailbox is cut
+        let message = *sdo.first_chunk().unwrap();
+        self.ops.push(Op::Message { line: line as u32, message, room });
+    }
+
+    /// Sends a mailbox. One that the board refuses by number is mostly sent again.
+    fn post(&mut self, sdo: Sdo) {
+        let mut mailbox = self.mailbox(&sdo);
+        if self.r.chance(40) {
+            self.spoil(&mut mailbox);
+            if self.r.chance(700) {
+                self.queues[0].push_front(sdo);
+            }
+        }
+        let room = self.room(128);
+        self.ops.push(Op::Mailbox { mailbox, room });
+    }
+
+    /// A mailbox with an SDO request; what is not looked at may be anything.
+    fn mailbox(&mut self, sdo: &Sdo) -> Vec<u8> {
+        let mut mailbox = if self.r.chance(300) { self.r.bytes(128) } else { vec![0; 128] };
+        mailbox[..2].copy_from_slice(&(2 + sdo.len() as u16).to_le_bytes());
+        mailbox[2..4].copy_from_slice(&if self.r.chance(500) { ADDRESS } else { [self.r.byte(), self.r.byte()] });
+        mailbox[4] = if self.r.chance(100) { self.r.byte() } else { 0 };
+        // a counter may be repeated, and may be 0
+        if self.r.chance(900) {
+            self.counter = if self.r.chance(100) { self.r.below(8) as u8 } else { self.counter % 7 + 1 };
+        }
+        mailbox[5] = 3 | self.counter << 4 | (self.r.chance(80) as u8) << 7;
+        let number = if self.r.chance(100) { self.r.word() as u16 & 0x0FFF } else { 0 };
+        mailbox[6..8].copy_from_slice(&(0x2000 | number).to_le_bytes());
+        mailbox[8..8 + sdo.len()].copy_from_slice(sdo);
+        mailbox
+    }
+
+    /// A wrong length field, type, service or size; or a length field that only counts other bytes.
+    fn spoil(&mut self, mailbox: &mut Vec<u8>) {
+        match self.r.below(14) {
+            0..=2 => {
+                let length: u16 = self.r.pick(&[0, 8, 9, 9, 9, 123, 123, 123, 124, 0x010A, 0x0A00, 0xFFFF]);
+                mailbox[..2].copy_from_slice(&length.to_le_bytes());
+            }
+            3 | 4 => mailbox[0] = self.r.pick(&[10, 11, 12, 121, 122]),
+            5 | 6 => mailbox[5] = mailbox[5] & 0xF0 | self.r.below(16) as u8,
+            7 => mailbox[7] = mailbox[7] & 0x0F | (self.r.below(16) as u8) << 4,
+            8 => mailbox[7] = self.r.pick(&[0x10, 0x30]),
+            9 | 10 => mailbox.resize(self.r.pick(&[127, 129, 127, 129, 0, 7, 64, 256]), 0),
+            11 => {
+                mailbox[5] ^= 1 << self.r.below(4);
+                mailbox[0] = self.r.pick(&[9, 123]);
+            }
+            12 => mailbox[self.r.below(8)] ^= 1 << self.r.below(8),
+            _ => {
+                let size = if self.r.chance(500) { 128 } else { self.r.below(301) };
+                *mailbox = self.r.bytes(size);
+            }
+        }
+    }
+
+    /// Line 0 speaks in the form that is not chosen.
+    fn stray(&mut self) {
+        self.long = self.form == 0;
+        let sdo = self.script().swap_remove(0);
+        if self.long {
+            self.post(sdo);
+        } else {
+            self.say(0, &sdo);
         }
     }
 
@@ -748,6 +927,8 @@ impl Maker {
     fn odd(&mut self) {
         let call = self.r.below(10).min(3) as u8;
         let call = if call == 3 && self.r.chance(600) { 1 } else { call };
+        let posts = self.form != 0 || self.style == Style::Any;
+        let call = if call == 1 && posts && self.r.chance(600) { 4 } else { call };
         let mut size = |right: usize| match self.r.below(24) {
             0 => 0,
             1 => right - 1,
@@ -757,15 +938,35 @@ impl Maker {
         };
         let sizes = [size(1024), size(512), size(256)];
         let line = self.r.pick(&[0, 1, 0, 1, 2, 3, 256, 0x8000_0000, u32::MAX]);
+        if call == 4 {
+            return self.odd_mailbox(sizes);
+        }
+        self.long = false;
         let message = match self.r.below(6) {
             0 => self.r.bytes(7),
             1 => self.r.bytes(9),
             2 => Vec::new(),
             3 => vec![0x80; 8],
-            _ => self.script()[0].to_vec(),
+            _ => self.script().swap_remove(0),
         };
         let room = self.r.pick(&[8, 8, 10, 10, 12, 7, 9, 0, 1, 20]);
+        // a run from power-up keeps its form
+        let line = if call == 0 && self.style == Style::FromPowerUp { self.form as u32 } else { line };
+        if call == 0 && sizes == [1024, 512, 256] {
+            self.form = (line != 0) as u8;
+        }
         self.ops.push(Op::Odd { call, line, message, sizes, room });
+    }
+
+    fn odd_mailbox(&mut self, sizes: [usize; 3]) {
+        self.long = true;
+        let sdo = if self.r.chance(200) { ABORT.to_vec() } else { self.script().swap_remove(0) };
+        let mut message = self.mailbox(&sdo);
+        if self.r.chance(400) {
+            self.spoil(&mut message);
+        }
+        let room = self.r.pick(&[128, 128, 130, 127, 127, 0, 8, 200]);
+        self.ops.push(Op::Odd { call: 4, line: 0, message, sizes, room });
     }
 
     /// A record as it may be lent: most of them fit the table.
@@ -801,9 +1002,11 @@ impl Maker {
         // the line goes on with it
         let toggle = (record[69] != 0) as usize;
         self.queues[line].clear();
+        self.long = self.is_long(line);
         let mut script = Vec::new();
         if record[66] == 1 {
-            self.read_parts(left.div_ceil(7).max(1), toggle, &mut script);
+            let parts = if self.long { 1 } else { left.div_ceil(7).max(1) };
+            self.read_parts(parts, toggle, &mut script);
         } else {
             let bytes = self.r.bytes(left);
             self.write_parts(&bytes, toggle, &mut script);
@@ -875,15 +1078,14 @@ impl Maker {
             8 => Maker::find(0xFBF1, 1),
             _ => self.writable_line(),
         };
-        let script = self.write_some(line);
-        self.say_next(script);
+        self.say_next(|maker| maker.write_some(line));
     }
 
     /// A line says this instead of what it was about to say.
-    fn say_next(&mut self, script: Vec<[u8; 8]>) {
-        let queue = &mut self.queues[self.r.below(2)];
-        queue.clear();
-        queue.extend(script);
+    fn say_next(&mut self, script: impl Fn(&mut Maker) -> Vec<Sdo>) {
+        let line = self.r.below(2);
+        self.long = self.is_long(line);
+        self.queues[line] = script(self).into();
     }
 
     /// A trip point that is crossed, as only lent bytes can be, and then a write that may be refused for it.
@@ -905,12 +1107,11 @@ impl Maker {
             let enable = self.r.pick(&[1, 1, 1, 1, 1, 2, 0xFF]);
             self.lend_entry(index, sub, vec![enable]);
         }
-        let script = self.write_beside_crossed(index);
-        self.say_next(script);
+        self.say_next(|maker| maker.write_beside_crossed(index));
     }
 
     /// A write while a trip point may be crossed: to its object, to the other, a command or any other.
-    fn write_beside_crossed(&mut self, index: u16) -> Vec<[u8; 8]> {
+    fn write_beside_crossed(&mut self, index: u16) -> Vec<Sdo> {
         let line = match self.r.below(14) {
             0..=3 => {
                 let object: Vec<&Line> = table().iter().filter(|line| line.index == index).collect();
@@ -932,7 +1133,7 @@ impl Maker {
     }
 
     fn lend(&mut self) {
-        let (part, at, bytes) = match self.r.below(15) {
+        let (part, at, bytes) = match self.r.below(16) {
             0..=3 => {
                 let line = if self.r.chance(400) { self.trip_line() } else { self.any_line() };
                 let Some(place) = line.place else {
@@ -961,8 +1162,12 @@ impl Maker {
             }
             9 | 10 => return self.stale(),
             11..=13 => return self.cross(),
+            14 if self.form != 0 || self.r.chance(100) => {
+                self.form = self.r.pick(&[0, 1, 2, 3, 0x80, 0xFF, 2, 4, 0xFE]);
+                (Part::State, FORM, vec![self.form])
+            }
             _ => {
-                let at = self.r.pick(&[192, 193, 194, 195, 192, 193, 194, 195, 70, 95, 166, 191, 196, 255, 64, 66, 160, 162]);
+                let at = self.r.pick(&[192, 193, 194, 195, 192, 193, 194, 195, 70, 95, 166, 191, 197, 255, 64, 66, 160, 162]);
                 (Part::State, at, vec![self.r.pick(&[0, 1, 2, 0x80, 0xFF])])
             }
         };
@@ -977,7 +1182,8 @@ impl Maker {
             if self.r.chance(500) {
                 memory.state = self.r.bytes(256);
             }
-            self.ops.push(Op::PowerUp);
+            let form = self.form != 0;
+            self.power_up(form);
             return memory;
         }
         match self.r.below(5) {
@@ -1001,7 +1207,15 @@ impl Maker {
         for at in 192..196 {
             memory.state[at] = self.r.pick(&[0, 0, 1, 5]);
         }
+        memory.state[FORM] = self.form;
         memory
+    }
+
+    /// A power-up; any number but 0 chooses the mailbox.
+    fn power_up(&mut self, mailbox: bool) {
+        let form = if mailbox { self.r.pick(&[MAILBOX, MAILBOX, 2, 256, 0x8000_0000, u32::MAX]) } else { EIGHT };
+        self.form = mailbox as u8;
+        self.ops.push(Op::PowerUp { form });
     }
 
     fn step(&mut self) {
@@ -1015,20 +1229,26 @@ impl Maker {
             }
             950..=969 => self.odd(),
             970..=995 if lends => self.lend(),
-            996 if lends => self.ops.push(Op::PowerUp),
+            996 if lends => {
+                let other = self.r.chance(300);
+                self.power_up((self.form != 0) != other);
+            }
+            997..=999 if lends || self.form != 0 => self.stray(),
             _ => self.message(),
         }
     }
 }
 
 impl Trace {
-    /// The trace of a number, as the comparison and the mutants have it: every fourth from power-up.
+    /// The trace of a number, as the comparison and the mutants have it: every second with line 0 in the mailbox form, and of each
+    /// form every fourth from power-up.
     pub fn numbered(n: u64) -> Trace {
-        Trace::random(n, if n % 4 == 0 { Style::FromPowerUp } else { Style::Any })
+        let style = if matches!(n % 8, 0 | 1) { Style::FromPowerUp } else { Style::Any };
+        Trace::random(n, style, if n % 2 == 1 { MAILBOX } else { EIGHT })
     }
 
-    /// The trace of a seed.
-    pub fn random(seed: u64, style: Style) -> Trace {
+    /// The trace of a seed, style and form of line 0. What lends memory may change the form on its way.
+    pub fn random(seed: u64, style: Style, form: u32) -> Trace {
         let mut r = Random::new(seed);
         let mut reals = [0; 4];
         let near = r.chance(300);
@@ -1040,7 +1260,9 @@ impl Trace {
                 _ => r.pick(&NICE).to_bits(),
             };
         }
-        let mut maker = Maker { r, style, queues: Default::default(), reals, ops: Vec::new(), seconds: 0, active: 0 };
+        let (form, long, counter) = (form as u8, false, 0);
+        let mut maker =
+            Maker { r, style, form, long, counter, queues: Default::default(), reals, ops: Vec::new(), seconds: 0, active: 0 };
         let memory = maker.memory();
         let length = maker.r.pick(&[20, 60, 150, 300, 500]);
         while maker.ops.len() < length {

@@ -1,7 +1,7 @@
 //! The documents against each other and against the calls: the object table's two printed forms, its rule, the examples
-//! A to K, the coating shop's story, exceptions and masks, crossed trip points.
+//! A to U, the coating shop's story, exceptions and masks, crossed trip points.
 
-use board_tests::board::{hex, Board, Desk};
+use board_tests::board::{hex, Board, Desk, MAILBOX};
 use board_tests::model::code;
 use board_tests::model::table::{place, Kind, COUNT, FIELDS_END, ROWS};
 use board_tests::plain::{bits_of, bytes_of, judge, lines, Plain};
@@ -184,6 +184,79 @@ fn example_k() {
     }
 }
 
+const RULES: &str = include_str!("../../docs/RULES.md");
+
+/// Bytes as docs/RULES.md shows a mailbox: `41*32` is 32 bytes 41, and slashes stand behind headers and first eight bytes of the SDO.
+fn shown(text: &str) -> Vec<u8> {
+    let mut bytes = Vec::new();
+    for word in text.split_whitespace() {
+        if word == "/" {
+            assert!([8, 16].contains(&bytes.len()), "a slash behind {} bytes of '{text}'", bytes.len());
+            continue;
+        }
+        let (digits, times) = word.split_once('*').unwrap_or((word, "1"));
+        bytes.resize(bytes.len() + times.parse::<usize>().unwrap(), u8::from_str_radix(digits, 16).unwrap());
+    }
+    bytes
+}
+
+/// Plays a row of the examples in mailboxes: what is sent, and the answer or the number that it must get.
+fn play_row<B: Board>(desk: &mut Desk<B>, message: &str, answer: &str) {
+    let [sent] = &quoted(message)[..] else {
+        panic!("'{message}' has not one message");
+    };
+    let (mut sent, mut expected, by_message) = (shown(sent), [0xA5; 140], message.contains("the message call"));
+    let size = match message {
+        _ if by_message => 8,
+        _ if message.contains("127 bytes") => 127,
+        _ => 128,
+    };
+    assert!(sent.len() <= size, "'{message}' is too long");
+    sent.resize(size, 0);
+    let number = match (answer.strip_prefix("number "), &quoted(answer)[..]) {
+        (Some(number), []) => number.strip_suffix(", none").unwrap().parse().unwrap(),
+        (None, [bytes]) => {
+            let bytes = shown(bytes);
+            expected[..128].fill(0);
+            expected[..bytes.len()].copy_from_slice(&bytes);
+            0
+        }
+        _ => panic!("'{answer}' is no answer"),
+    };
+    let (before, m, mut room) = (desk.memory.clone(), &mut desk.memory, [0xA5; 140]);
+    let given = if by_message {
+        desk.board.message(0, &sent, &mut m.values, &mut m.block, &mut m.state, &mut room)
+    } else {
+        desk.board.mailbox(&sent, &mut m.values, &mut m.block, &mut m.state, &mut room)
+    };
+    assert_eq!((given, hex(&room)), (number, hex(&expected)), "to '{message}'");
+    assert!(number == 0 || desk.memory == before, "'{message}' wrote");
+}
+
+/// Examples L to U, row by row from the page, each letter from power-up.
+#[test]
+fn examples_l_to_u_of_the_page() {
+    let (_, section) = RULES.split_once("\n### In mailboxes\n").unwrap();
+    let rows =
+        section.lines().take_while(|text| !text.starts_with('#')).filter_map(|text| text.strip_prefix('|')?.strip_suffix('|'));
+    let (mut desk, mut letters, mut played) = (Desk::in_form(MAILBOX, subject()), String::new(), 0);
+    // behind the head of the table
+    for row in rows.skip(2) {
+        let [letter, message, answer] = row.split('|').map(str::trim).collect::<Vec<_>>()[..] else {
+            panic!("'{row}' is no row");
+        };
+        letters.push_str(letter);
+        if message.contains("form 0") {
+            desk = Desk::new(subject());
+        } else if !letter.is_empty() {
+            desk = Desk::in_form(MAILBOX, subject());
+        }
+        play_row(&mut desk, message, answer);
+        played += 1;
+    }
+    assert_eq!((&letters[..], played), ("LMNOPQRSTU", 18));
+}
+
 /// Bytes written between back quotes.
 fn quoted(text: &str) -> Vec<String> {
     text.split('`').skip(1).step_by(2).map(str::to_string).collect()
@@ -310,11 +383,12 @@ fn abort_codes_of_the_code() {
     assert_eq!(listed, codes);
 }
 
-/// The greatest stack of the calls of docs/PERFORMANCE.md whose names begin with a word.
-fn deepest(word: &str) -> u32 {
+/// The greatest stack of the calls of docs/PERFORMANCE.md whose names begin with a word, those by mailbox or the others.
+fn deepest(word: &str, by_mailbox: bool) -> u32 {
     include_str!("../../docs/PERFORMANCE.md")
         .lines()
         .filter(|line| line.starts_with(&format!("| {word}")) && line.matches('|').count() == 7)
+        .filter(|line| line.contains("mailbox") == by_mailbox)
         .filter_map(|line| line.trim_end_matches(" |").rsplit("| ").next()?.replace(',', "").parse().ok())
         .max()
         .unwrap()
@@ -326,10 +400,12 @@ fn stack_of_the_firmware_page() {
     let thousands = |n: u32| if n < 1000 { n.to_string() } else { format!("{},{:03}", n / 1000, n % 1000) };
     let page = include_str!("../../docs/FIRMWARE.md");
     for said in [
-        format!("deepest message takes {} bytes", thousands(deepest(""))),
-        format!("others {})", thousands(deepest("any message"))),
-        format!("power-up {},", thousands(deepest("power-up"))),
-        format!("a sample {},", thousands(deepest("any sample"))),
+        format!("deepest message takes {} bytes", thousands(deepest("", false))),
+        format!("others {})", thousands(deepest("any message", false))),
+        format!("the deepest mailbox {} (", thousands(deepest("", true))),
+        format!("(others {})", thousands(deepest("any mailbox", true))),
+        format!("power-up {},", thousands(deepest("power-up", false))),
+        format!("a sample {},", thousands(deepest("any sample", false))),
     ] {
         assert!(page.contains(&said), "docs/FIRMWARE.md does not say '{said}'");
     }
@@ -347,14 +423,17 @@ fn constants_of_the_header() {
         })
         .collect();
     let expected = [
-        ("VERSION_MAJOR", 1),
-        ("VERSION_MINOR", 1),
+        ("VERSION_MAJOR", 2),
+        ("VERSION_MINOR", 0),
         ("VALUES_SIZE", 1024),
         ("BLOCK_SIZE", 512),
         ("STATE_SIZE", 256),
         ("MESSAGE_SIZE", 8),
         ("ANSWER_SIZE", 8),
         ("IMAGE_SIZE", 10),
+        ("MAILBOX_SIZE", 128),
+        ("FORM_EIGHT", 0),
+        ("FORM_MAILBOX", 1),
         ("LINE_TOOL", 0),
         ("LINE_SERVICE", 1),
         ("DONE", 0),
@@ -363,6 +442,8 @@ fn constants_of_the_header() {
         ("BAD_LINE", 3),
         ("BAD_MEMORY", 4),
         ("CLIENT_ABORT", 5),
+        ("BAD_MAILBOX", 6),
+        ("NOT_SDO", 7),
     ];
     assert_eq!(constants, expected);
 }

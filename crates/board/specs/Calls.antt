@@ -1,8 +1,7 @@
 -- RULE: THE PROMISES OF THE BOARD'S CALLS (R13.1): each returned number, every byte of what was lent, on all inputs. Assumes nothing.
-use mathlib.Core.Bool.{Bool, cond, _&&_}
+use mathlib.Core.Bool.{Bool, cond, not, _&&_, _||_}
 use mathlib.Core.List.{List, [], _∷_}
-use mathlib.Core.Path.{_≡_}
-use Prim.Native.Nat.{ℕ, _≤_}
+use Prim.Native.Nat.{ℕ}
 use lib.Dec.{eqb, leb}
 use lib.Ieee.{Float}
 use lib.ListN.{length}
@@ -12,8 +11,11 @@ use Rattle.gauge.specs.Memory.{Store}
 use Rattle.gauge.specs.PowerUp.{fresh-values}
 use Rattle.order.specs.Keep.{Spoken, speak}
 use Rattle.sdo.specs.Eight.{eight-bytes}
+use Rattle.mailbox.specs.declared.Mail.{Mail}
+use Rattle.mailbox.specs.declared.Mail.the-variants.{Misshapen, NotSdo, Sdo}
+use Rattle.mailbox.specs.Mail.{mailbox-size, mail-of, mailboxes}
 use Rattle.transfer.specs.Records.{transfers}
-use Rattle.state.specs.State.{state-size, record-place, record-at, trips-place, trips-bytes, fresh-state, settled}
+use Rattle.state.specs.State.{state-size, record-place, record-at, trips-place, trips-bytes, form-place, form-at, form-bytes, fresh-state, settled}
 use Rattle.line.specs.Gauge.{sampled, plain, store-of}
 
 -- the lengths of what is lent (R13.2)
@@ -40,29 +42,52 @@ number-by (b ∷ bytes) = 0
 abbrev pub state-after : ℕ → Spoken plain transfers → List ℕ → List ℕ
 state-after line s state = settled (record-place line) (s .next) (s .reset) state
 
--- what the message call lends when it serves
-pub record Lent (m values block state answer : List ℕ) : Type 0 where
-  pub message-long : length m ≡ 8
-  pub values-long : length values ≡ 1024
-  pub block-long : length block ≡ 512
-  pub state-long : length state ≡ state-size
-  pub room : 8 ≤ length answer
-
 -- the message is served: the answer's bytes are written, if any, and no other of the room (R13.7, R13.8)
 unfoldable pub served : ℕ → Spoken plain transfers → List ℕ → List ℕ → Called
 served line s state answer =
     called (number-by (s .bytes)) (s .store .memory .values) (s .store .memory .block) (state-after line s state) (splice answer 0 (s .bytes))
 
+-- line 1, and line 0 where the mailbox is not chosen (R13.3)
+unfoldable pub hears-eight : ℕ → List ℕ → Bool
+hears-eight line state = eqb line 1 || (eqb line 0 && not (form-at state))
+
 -- the numbers in their order (R13.2 to R13.6)
 unfoldable pub message-call : ℕ → List ℕ → List ℕ → List ℕ → List ℕ → List ℕ → Called
 message-call line m values block state answer =
     cond (sized values block state)
-    (cond (leb line 1)
+    (cond (hears-eight line state)
     (cond (leb 8 (length answer))
     (cond (eqb (length m) 8)
     (served line (speak plain transfers eight-bytes (store-of values block state) (record-at state (record-place line)) m) state answer)
     (called 1 values block state answer))
     (called 2 values block state answer))
+    (called 3 values block state answer))
+    (called 4 values block state answer)
+
+-- ---- gauge_mailbox, which is line 0
+
+-- 6 and 7 (R13.9, R13.10), or what follows
+unfoldable pub by-mail : Mail → (ℕ → Called) → Called → Called
+by-mail Misshapen refuse follows = refuse 6
+by-mail NotSdo refuse follows = refuse 7
+by-mail (Sdo head) refuse follows = follows
+
+-- then 2 (R13.4)
+unfoldable pub mail-call : List ℕ → List ℕ → List ℕ → List ℕ → List ℕ → Called
+unfolding by-mail
+mail-call m values block state answer =
+    by-mail (mail-of m) (λ number. called number values block state answer)
+    (cond (leb mailbox-size (length answer))
+    (served 0 (speak plain transfers mailboxes (store-of values block state) (record-at state (record-place 0)) m) state answer)
+    (called 2 values block state answer))
+
+-- the numbers in their order (R13.6)
+unfoldable pub mailbox-call : List ℕ → List ℕ → List ℕ → List ℕ → List ℕ → Called
+unfolding mail-call
+mailbox-call m values block state answer =
+    cond (sized values block state)
+    (cond (form-at state)
+    (mail-call m values block state answer)
     (called 3 values block state answer))
     (called 4 values block state answer)
 
@@ -77,9 +102,19 @@ pub record Powered : Type 0 where
 abbrev pub powered : ℕ → List ℕ → List ℕ → Powered
 powered number values state = record { number = number; values = values; state = state }
 
--- values from the block, records and trips as at power-up (R9.1 to R9.3)
-unfoldable pub power-up-call : List ℕ → List ℕ → List ℕ → Powered
-power-up-call values block state = cond (sized values block state) (powered 0 (fresh-values block) (fresh-state state)) (powered 4 values state)
+-- form 0 is eight bytes on line 0, any other the mailbox (R18.11)
+abbrev pub boxed-by : ℕ → Bool
+boxed-by form = not (eqb form 0)
+
+-- the state with a form of line 0
+unfoldable pub with-form : Bool → List ℕ → List ℕ
+with-form boxed state = splice state form-place (form-bytes boxed)
+
+-- values from the block, records and trips as at power-up, the form of line 0 (R9.1 to R9.4)
+unfoldable pub power-up-call : ℕ → List ℕ → List ℕ → List ℕ → Powered
+unfolding with-form
+power-up-call form values block state =
+    cond (sized values block state) (powered 0 (fresh-values block) (with-form (boxed-by form) (fresh-state state))) (powered 4 values state)
 
 -- ---- gauge_sample
 

@@ -11,7 +11,7 @@ use lib.ListN.{length, length-take}
 use borrow.Author.Tests.{ne-eqb}
 use Rattle.order.specs.Talk.{Read, value, denied, Sizes, sizes, closed, Outcome, stored, restarted, declined}
 use Rattle.order.specs.Gauge.{counted}
-use Rattle.order.specs.Bytes.{Call}
+use Rattle.order.specs.Bytes.{Call, Clear}
 use Rattle.order.specs.Keep.{Demand3Records, Keeps}
 use Rattle.order.proofs.Kept.{demand3-records}
 use Rattle.table.specs.Row.{Row, RO, WO, CARD, COMMAND, smallest, largest}
@@ -41,8 +41,9 @@ use Rattle.gauge.proofs.SummaryLaws.{fresh-length}
 use Rattle.sdo.specs.declared.Key.{Key}
 use Rattle.transfer.specs.declared.Direction.the-variants.{Reads, Writes}
 use Rattle.sdo.specs.Eight.{Code}
-use Rattle.sdo.specs.Lines.{Sound}
-use Rattle.sdo.proofs.Carries.{Coded, CodedSizes, clear}
+use Rattle.sdo.specs.Entries.{Sound}
+use Rattle.sdo.proofs.Carries.{Coded, CodedSizes}
+use Rattle.mailbox.proofs.LineLaws.{clear}
 use Rattle.transfer.specs.Records.{allows, RowOf, transfers, GoodAfter, Rows}
 use Rattle.transfer.proofs.RecordLaws.{Whole}
 use Rattle.transfer.proofs.Kept.{keeps}
@@ -258,8 +259,8 @@ module _ (I : Memory → Type 0) (sized : (m : Memory) → I m → length (m .va
         sample-good = λ g s ok. samples (g .memory) (g .trips) (s .pressure) (s .valid) (s .faults) (s .seconds) ok;
       }
 
-  pub records-hold : Keeps setup transfers Holds Whole
-  records-hold = keeps bag552 rows-hold (setup .wires) (setup .speech)
+  pub records-hold : (boxed : Bool) → Keeps (setup boxed) transfers Holds Whole
+  records-hold boxed = keeps bag552 rows-hold (setup boxed .wires) (setup boxed .speech)
 
 -- the store's bytes are as many as the table and the block have places for
 abbrev pub GoodStore : Store → Type 0
@@ -271,10 +272,16 @@ real-rows = rows-hold Sized (λ m s. s .values-are) (λ k h e bytes n m s. commi
 pub powered-good : (block : List ℕ) → length block ≡ 512 → GoodStore (powered-store block)
 powered-good block n = record { values-are = fresh-length _; block-is = n }
 
--- what the two lines keep in their records
-pub kept-records : Keeps setup transfers GoodStore Whole
-kept-records = keeps bag552 real-rows (setup .wires) (setup .speech)
+-- however line 0 speaks
+module _ (boxed : Bool) where
+  -- what the two lines keep in their records
+  pub kept-records : Keeps (setup boxed) transfers GoodStore Whole
+  kept-records = keeps bag552 real-rows (setup boxed .wires) (setup boxed .speech)
 
--- THEOREM: demand 3 for the board with its records by value, for every list of messages and samples from power-up
-pub demand3-board : (block : List ℕ) → length block ≡ 512 → (cs : List (Call setup)) → Demand3Records setup transfers (powered-store block) cs
-demand3-board block n cs = demand3-records setup transfers kept-records (clear bag552 sound) (powered-store block) (powered-good block n) cs
+  -- a client reads in every answer what the board meant
+  pub all-clear : Clear (setup boxed)
+  all-clear = clear bag552 sound boxed
+
+  -- THEOREM: demand 3 for the board with its records by value, for every list of messages and samples from power-up
+  pub demand3-board : (block : List ℕ) → length block ≡ 512 → (cs : List (Call (setup boxed))) → Demand3Records (setup boxed) transfers (powered-store block) cs
+  demand3-board block n cs = demand3-records (setup boxed) transfers kept-records all-clear (powered-store block) (powered-good block n) cs

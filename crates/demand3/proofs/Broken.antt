@@ -1,6 +1,8 @@
--- BOARDS THAT DEMAND 3 REFUSES, whatever the promises of the single calls say: what the observer sees of them no plain gauge gives. Computed.
+-- BOARDS THAT DEMAND 3 REFUSES, whatever the promises of the single calls say: what the observer sees of them, with line 0 in eight bytes (form 0), no plain
+-- gauge gives. Computed.
 use Prim.Native.Nat.{ℕ}
 use mathlib.Core.Path.{_≡_, ap}
+use mathlib.Core.Bool.{false}
 use mathlib.Core.List.{List, _++_, map}
 use lib.ListN.{getD, replicate}
 use Rattle.order.specs.Talk.{Result, gave, yes!, code, taken}
@@ -17,7 +19,7 @@ abbrev answers-of : List Case → List (Exported × Back)
 answers-of cs = map (λ (c : Case). (asks c, expects c)) cs
 
 abbrev Plain : List Case → Type 0
-Plain cs = results plain (powered-store (replicate 512 0)) (ops-of plain (observed (answers-of cs))) ≡ got-of plain (observed (answers-of cs))
+Plain cs = results plain (powered-store (replicate 512 0)) (ops-of plain (observed false (answers-of cs))) ≡ got-of plain (observed false (answers-of cs))
 
 -- the first byte of the value that the n-th operation got
 first-byte : Result → ℕ

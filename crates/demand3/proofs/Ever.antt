@@ -1,11 +1,12 @@
 -- WHAT HOLDS OF THE VALUES EVER: from power-up, whatever calls come, if each step keeps it.
 use Prim.Native.Nat.{ℕ, _<_}
-use mathlib.Core.Path.{_≡_, sym, ap, subst, _∙_}
-use mathlib.Core.Bool.{false}
+use mathlib.Core.Path.{_≡_, sym, subst}
+use mathlib.Core.Bool.{Bool, false}
 use mathlib.Core.List.{List}
 use lib.Dec.{eqb}
 use lib.Ieee.{Float}
 use lib.ListN.{length}
+use Rattle.order.specs.Serve.{Setup}
 use Rattle.order.specs.Promise.{start}
 use Rattle.order.specs.Bytes.{Call, after-all}
 use Rattle.order.specs.Keep.{Keeps, RecordBoard, record-end, record-start}
@@ -25,14 +26,14 @@ use Rattle.gauge.specs.Commands.{done}
 use Rattle.gauge.specs.Whole.{commit-row}
 use Rattle.gauge.proofs.GaugeLaws.{cleared-length}
 use Rattle.gauge.proofs.SummaryLaws.{taken-length}
-use Rattle.board.specs.Calls.{power-up-call}
+use Rattle.board.specs.Calls.{boxed-by, power-up-call}
 use Rattle.transfer.specs.Records.{transfers}
 use Rattle.transfer.proofs.RecordLaws.{Whole}
-use Rattle.demand3.specs.Firmware.{setup, Exported, history, final, power-on, calls-in, board-in, powered-store}
+use Rattle.demand3.specs.Firmware.{setup, Exported, history, final, power-on, calls-in, powered-store}
 use Rattle.demand3.proofs.WholeWrites.{Passed, After, commit-after}
 use Rattle.demand3.proofs.Lengths.{Long, Sized, fresh-sized, sample-sized, status-sized, done-sized, value-sized}
 use Rattle.demand3.proofs.Bag552.{Holds, records-hold}
-use Rattle.demand3.proofs.Calls.{same-run, powered-lengths, powered-lent, powered-board}
+use Rattle.demand3.proofs.Calls.{powered-lengths, from-power-up}
 
 -- what power-up gives and each step keeps
 pub record Lasts (P : List ℕ → Type 0) : Type 0 where
@@ -89,22 +90,24 @@ module _ (P : List ℕ → Type 0) (lasts : Lasts P) where
       commit-after Upheld k bytes m (λ c. done-upheld c m u) (λ c. status-upheld c 2 (m .values) (m .block) u)
       (λ n pass. record { sized = value-sized k there bytes size m (u .sized) n; upheld = lasts .written k there writable n bytes size (m .values) pass (u .sized .values-are) (u .upheld) })
 
-  kept-upheld : Keeps setup transfers (Holds Upheld (λ m u. u .sized .values-are) commit-upheld sample-upheld) Whole
-  kept-upheld = records-hold Upheld (λ m u. u .sized .values-are) commit-upheld sample-upheld
+  kept-upheld : (boxed : Bool) → Keeps (setup boxed) transfers (Holds Upheld (λ m u. u .sized .values-are) commit-upheld sample-upheld) Whole
+  kept-upheld boxed = records-hold Upheld (λ m u. u .sized .values-are) commit-upheld sample-upheld boxed
 
-  -- after every list of calls of the C firmware
-  module _ (v b s : List ℕ) (zero-given : (power-up-call v b s) .number ≡ 0) where
-    pub ever : (cs : List Exported) → P (final (power-on v b s) cs .values)
-    ever cs = subst (λ (x : RecordBoard setup transfers). P (x .store .memory .values)) (sym ends) (shown .good .upheld)
+  -- after every list of calls of the C firmware, whatever form power-up is given
+  module _ (form : ℕ) (v b s : List ℕ) (zero-given : (power-up-call form v b s) .number ≡ 0) where
+    pub ever : (cs : List Exported) → P (final (power-on form v b s) cs .values)
+    ever cs = subst (λ (x : RecordBoard lines transfers). P (x .store .memory .values)) (sym (from-power-up form v b s zero-given cs .ends)) (shown .good .upheld)
       where
-        ds : List (Call setup)
-        ds = calls-in (history (power-on v b s) cs)
+        lines : Setup
+        lines = setup (boxed-by form)
 
-        begun : RecordBoard setup transfers
-        begun = record-start setup transfers (powered-store b)
+        ds : List (Call lines)
+        ds = calls-in (boxed-by form) (history (power-on form v b s) cs)
 
-        shown : Shows setup transfers kept-upheld (record-end setup transfers begun ds) (after-all setup (start setup (powered-store b)) ds)
-        shown = shows-end setup transfers kept-upheld ds begun (start setup (powered-store b)) (shows-start setup transfers kept-upheld (powered-store b) (fresh-upheld b (powered-lengths v b s zero-given .0)))
+        begun : RecordBoard lines transfers
+        begun = record-start lines transfers (powered-store b)
 
-        ends : board-in (final (power-on v b s) cs) ≡ record-end setup transfers begun ds
-        ends = same-run cs (power-on v b s) (powered-lent v b s zero-given) .same-board ∙ ap (λ (x : RecordBoard setup transfers). record-end setup transfers x ds) (powered-board v b s zero-given)
+        shown : Shows lines transfers (kept-upheld (boxed-by form)) (record-end lines transfers begun ds) (after-all lines (start lines (powered-store b)) ds)
+        shown =
+            shows-end lines transfers (kept-upheld (boxed-by form)) ds begun (start lines (powered-store b))
+            (shows-start lines transfers (kept-upheld (boxed-by form)) (powered-store b) (fresh-upheld b (powered-lengths form v b s zero-given .0)))

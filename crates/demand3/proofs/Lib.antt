@@ -9,10 +9,12 @@ pub mod Lengths
 pub mod Trips
 pub mod Bag552
 pub mod StateBytes
+pub mod States
 pub mod Calls
 pub mod Ever
 pub mod NeverStale
 pub mod NeverCrossed
 pub mod Parts
 pub mod Observed
+pub mod Mailboxes
 pub mod Broken

@@ -27,5 +27,5 @@ straight-lasts =
     }
 
 -- THEOREM: after every list of calls of the C firmware no trip point has both sides enabled with its low level not below its high one
-pub never-crossed : (v b s : List ℕ) → (power-up-call v b s) .number ≡ 0 → (cs : List Exported) → straight (final (power-on v b s) cs .values) ≡ true
+pub never-crossed : (form : ℕ) (v b s : List ℕ) → (power-up-call form v b s) .number ≡ 0 → (cs : List Exported) → straight (final (power-on form v b s) cs .values) ≡ true
 never-crossed = ever Straight straight-lasts

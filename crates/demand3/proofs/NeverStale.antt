@@ -25,5 +25,5 @@ summed-lasts =
     }
 
 -- THEOREM: after every list of calls of the C firmware the summary is the one that active word and mask give
-pub never-stale : (v b s : List ℕ) → (power-up-call v b s) .number ≡ 0 → (cs : List Exported) → Summed (final (power-on v b s) cs .values)
+pub never-stale : (form : ℕ) (v b s : List ℕ) → (power-up-call form v b s) .number ≡ 0 → (cs : List Exported) → Summed (final (power-on form v b s) cs .values)
 never-stale = ever Summed summed-lasts

@@ -1,25 +1,25 @@
 -- WHAT THE OBSERVER SEES in example J and in the coating shop's story: the finished operations with what they got, in their order. Computed.
 use mathlib.Core.Path.{_≡_, refl}
+use mathlib.Core.Bool.{false}
 use mathlib.Core.List.{List, [], _∷_, map}
 use mathlib.Core.Option.{some}
 use Prim.Native.Nat.{ℕ}
-use native.Mathlib.Omega.{arith}
 use lib.ListN.{length, replicate}
 use Rattle.order.specs.Talk.{announced, gave, yes! }
 use Rattle.order.specs.Gauge.{read, write}
 use Rattle.order.specs.Observe.{Done}
 use Rattle.sdo.specs.declared.Key.{Key}
 use Rattle.order.specs.Keep.{record-call}
-use Rattle.sdo.specs.Lines.{tool}
+use Rattle.mailbox.specs.Lines.{tool}
 use Rattle.line.specs.Gauge.{plain}
-use Rattle.demand3.specs.Firmware.{Exported, to-message, Back, back, history, observed, arrays-after, value-got, ReadOpened}
+use Rattle.demand3.specs.Firmware.{Exported, to-message, Back, back, exported, history, observed, ReadOpened, read-seen}
 use Rattle.demand3.specs.Open.{all-opened, observer-opened}
 use Rattle.demand3.specs.Conversation.{Case, on, asks, fresh-arrays}
 use Rattle.demand3.specs.Examples.{label-changed, case-J}
 use Rattle.demand3.specs.CoatingShop.{old-pair, new-pair, saved-before, read-across-load, story}
 
 abbrev seen-in : List Case → List (Done plain)
-seen-in cs = observed (history fresh-arrays (map asks cs))
+seen-in cs = observed false (history fresh-arrays (map asks cs))
 
 abbrev entry : ℕ → ℕ → Key
 entry index sub = record { index = index; sub = sub }
@@ -27,13 +27,13 @@ entry index sub = record { index = index; sub = sub }
 abbrev label : Key
 label = entry 0x2001 0
 
-abbrev card : Key
+abbrev pub card : Key
 card = entry 0x2010 0
 
 abbrev did : Key → List ℕ → Done plain
 did k bytes = (write k (announced (length bytes)) bytes, yes!)
 
-abbrev got : Key → List ℕ → Done plain
+abbrev pub got : Key → List ℕ → Done plain
 got k bytes = (read k, gave bytes)
 
 -- the read that was opened first stands first, with the old label; then the write; then the read of the new one
@@ -42,9 +42,9 @@ unfolding label-changed case-J all-opened observer-opened
 J-seen = refl
 
 -- the torn read of the card would be no value of any gauge: what is seen is the old pair before the load, the new pair after it
-pub story-seen :
-    seen-in story
-    ≡ did card new-pair ∷
+abbrev pub story-done : List (Done plain)
+story-done =
+    did card new-pair ∷
     did (entry 0xFBF2 1) (0x73 ∷ 0x61 ∷ 0x76 ∷ 0x65 ∷ []) ∷
     did card old-pair ∷
     got card old-pair ∷
@@ -53,6 +53,8 @@ pub story-seen :
     did card old-pair ∷
     got card old-pair ∷
     []
+
+pub story-seen : seen-in story ≡ story-done
 unfolding story saved-before read-across-load old-pair new-pair all-opened observer-opened
 story-seen = refl
 
@@ -71,7 +73,7 @@ pub unseen-numbers :
 unfolding unseen all-opened
 unseen-numbers = refl
 
-pub nothing-seen : observed (history fresh-arrays unseen) ≡ []
+pub nothing-seen : observed false (history fresh-arrays unseen) ≡ []
 unfolding unseen all-opened observer-opened
 nothing-seen = refl
 
@@ -89,20 +91,26 @@ label-parts =
 abbrev open-label : List ℕ
 open-label = 0x40 ∷ 0x01 ∷ 0x20 ∷ 0x00 ∷ 0x00 ∷ 0x00 ∷ 0x00 ∷ 0x00 ∷ []
 
-pub label-opened : ReadOpened fresh-arrays 0 open-label (replicate 8 0) (replicate 32 0) (map asks label-parts)
+abbrev label-opening : Exported
+label-opening = to-message 0 open-label (replicate 8 0)
+
+-- what the opening tells: 32 bytes
+abbrev label-told : List ℕ
+label-told = 0x41 ∷ 0x01 ∷ 0x20 ∷ 0x00 ∷ 0x20 ∷ 0x00 ∷ 0x00 ∷ 0x00 ∷ []
+
+pub label-opened : ReadOpened false fresh-arrays label-opening tool open-label label-told (replicate 32 0) (map asks label-parts)
 unfolding label-parts all-opened observer-opened record-call
 label-opened =
     record {
-      answered = refl;
+      heard-so = refl;
       key = label;
       opens = refl;
       holds = refl;
-      long = omega arith;
       right = (refl, (refl, (refl, (refl, (refl, tt)))));
       calm = (refl, (refl, (refl, (refl, (refl, (refl, tt))))));
     }
 
 -- exactly five parts: the value is had, and it is the label as it was at the opening
-pub label-finished : value-got tool (history (arrays-after fresh-arrays 0 open-label (replicate 8 0)) (map asks label-parts)) ≡ some (replicate 32 0)
+pub label-finished : read-seen false tool label open-label label-told (history ((exported fresh-arrays label-opening) .0) (map asks label-parts)) ≡ some (got label (replicate 32 0))
 unfolding label-parts all-opened observer-opened
 label-finished = refl

@@ -1,4 +1,4 @@
--- BOARDS THAT THE PROMISE REFUSES, whatever else they do: each is refuted at calls that are answered, from power-up on a zero block. Computed.
+-- BOARDS THAT THE PROMISE REFUSES, whatever else they do: each is refuted at message calls that are answered, from power-up with form 0 on a zero block. Computed.
 use Prim.Native.Nat.{ℕ}
 use native.Mathlib.Omega.{arith}
 use mathlib.Core.Path.{_≡_, refl, sym, ap, ap₂, _∙_}

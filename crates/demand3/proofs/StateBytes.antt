@@ -1,5 +1,5 @@
--- THE STATE BYTES GIVE BACK WHAT WAS WRITTEN: a record and the trip states are read back, and what stands beside them is left alone.
-use Prim.Native.Nat.{ℕ, _+_, _≤_}
+-- THE STATE BYTES GIVE BACK WHAT WAS WRITTEN: a record, the trip states and the form of line 0 are read back, and what stands beside them is left alone.
+use Prim.Native.Nat.{ℕ, _+_, _≤_, _<_}
 use native.Mathlib.Omega.{arith}
 use mathlib.Core.Path.{_≡_, refl, sym, ap, _∙_}
 use mathlib.Core.Logic.{_⊎_, inl, inr}
@@ -20,7 +20,7 @@ use Rattle.transfer.specs.declared.Direction.{Direction}
 use Rattle.transfer.specs.declared.Direction.the-variants.{Neither, Reads, Writes}
 use Rattle.transfer.specs.declared.Transfer.{Transfer}
 use Rattle.transfer.proofs.RecordLaws.{Whole, Small}
-use Rattle.state.specs.State.{state-size, record-size, direction-of, direction-byte, record-at, record-tail, record-bytes, trips-place, trips-at, trips-bytes}
+use Rattle.state.specs.State.{state-size, record-size, direction-of, direction-byte, record-at, record-tail, record-bytes, trips-place, trips-at, trips-bytes, form-place, form-at, form-bytes}
 
 -- ---- parts of what was written
 
@@ -126,12 +126,35 @@ trips-back s t e = sides (side 0 (t .one .high) (omega arith) refl) (side 1 (t .
     side : (k : ℕ) (b : Bool) → k + 1 ≤ 4 → number (trips-bytes t) k 1 ≡ fromLittle (little 1 (bit b)) → is-set (splice s trips-place (trips-bytes t)) (trips-place + k) ≡ b
     side k b h q = set-back _ (trips-place + k) b (number-inside s trips-place (trips-bytes t) k 1 (omega arith) (rw (trips-long t) h) ∙ q)
 
--- LAW: the trip states are left alone by what is written before them
-pub trips-beside : (s : List ℕ) (p : ℕ) (vs : List ℕ) → p ≤ length s → p + length vs ≤ trips-place → trips-at (splice s p vs) ≡ trips-at s
-unfolding trips-at is-set
-trips-beside s p vs h b = sides (side 0) (side 1) (side 2) (side 3)
+-- ---- what is written beside a flag leaves it alone
+
+flag-beside : (s : List ℕ) (p : ℕ) (vs : List ℕ) (at : ℕ) → p ≤ length s → (p + length vs ≤ at) ⊎ (at + 1 ≤ p) → is-set (splice s p vs) at ≡ is-set s at
+unfolding is-set
+flag-beside s p vs at h b = ap (λ (n : ℕ). not (eqb n 0)) (number-apart s p vs at 1 (le-leb p (length s) h) (is-apart p (length vs) at 1 b))
+
+-- LAW: the trip states are left alone by what is written before them or behind them
+pub trips-beside : (s : List ℕ) (p : ℕ) (vs : List ℕ) → p ≤ length s → (p + length vs ≤ trips-place) ⊎ (trips-place + 4 ≤ p) → trips-at (splice s p vs) ≡ trips-at s
+unfolding trips-at
+trips-beside s p vs h b = sides (side 0 (omega arith)) (side 1 (omega arith)) (side 2 (omega arith)) (side 3 (omega arith))
   where
-    side : (k : ℕ) → not (eqb (number (splice s p vs) (trips-place + k) 1) 0) ≡ not (eqb (number s (trips-place + k) 1) 0)
-    side k =
-        let q : p + length vs ≤ trips-place + k = omega arith in
-        ap (λ (n : ℕ). not (eqb n 0)) (number-apart s p vs (trips-place + k) 1 (le-leb p (length s) h) (is-apart p (length vs) (trips-place + k) 1 (inl q)))
+    from : (k : ℕ) → k < 4 → (p + length vs ≤ trips-place) ⊎ (trips-place + 4 ≤ p) → (p + length vs ≤ trips-place + k) ⊎ (trips-place + k + 1 ≤ p)
+    from k q (inl x) = inl (omega arith)
+    from k q (inr x) = inr (omega arith)
+
+    side : (k : ℕ) → k < 4 → is-set (splice s p vs) (trips-place + k) ≡ is-set s (trips-place + k)
+    side k q = flag-beside s p vs (trips-place + k) h (from k q b)
+
+-- ---- the form of line 0
+
+-- LAW: the form is left alone by what is written before it
+pub form-beside : (s : List ℕ) (p : ℕ) (vs : List ℕ) → p ≤ length s → p + length vs ≤ form-place → form-at (splice s p vs) ≡ form-at s
+unfolding form-at
+form-beside s p vs h b = flag-beside s p vs form-place h (inl b)
+
+pub form-long : (boxed : Bool) → length (form-bytes boxed) ≡ 1
+form-long boxed = length-little 1 (bit boxed)
+
+-- LAW: the form that was written is read back
+pub form-back : (s : List ℕ) (boxed : Bool) → length s ≡ state-size → form-at (splice s form-place (form-bytes boxed)) ≡ boxed
+unfolding form-at fromLittle number little
+form-back s boxed e = set-back _ form-place boxed (number-inside s form-place (form-bytes boxed) 0 1 (omega arith) (rw (form-long boxed) (omega arith)))

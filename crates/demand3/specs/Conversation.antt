@@ -1,4 +1,4 @@
--- RULE: CONVERSATIONS over the exported calls, from power-up on a zero block: what is sent on which line, and the answer. Assumes nothing.
+-- RULE: CONVERSATIONS over the exported calls, from power-up with form 0 on a zero block: what is sent on which line, and the answer. Assumes nothing.
 use Prim.Native.Nat.{ℕ, _-_}
 use mathlib.Core.List.{List, [], _∷_, _++_, map}
 use lib.ListN.{length, take, drop, replicate}
@@ -25,9 +25,12 @@ asks c = to-message (c .line) (padded (c .message)) (replicate 8 0xEE)
 abbrev pub expects : Case → Back
 expects c = back 0 (padded (c .answer))
 
--- after power-up on values and state that held FF bytes (R9.3)
+-- after power-up on values and state that held FF bytes (R9.3), with a form of line 0; and in eight bytes
+abbrev pub arrays-with : ℕ → Arrays
+arrays-with form = power-on form (replicate 1024 0xFF) (replicate 512 0) (replicate state-size 0xFF)
+
 abbrev pub fresh-arrays : Arrays
-fresh-arrays = power-on (replicate 1024 0xFF) (replicate 512 0) (replicate state-size 0xFF)
+fresh-arrays = arrays-with 0
 
 -- what the board gives back, and what it must give back
 abbrev pub given-to : Arrays → List Exported → List Back

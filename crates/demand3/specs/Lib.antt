@@ -6,4 +6,5 @@ pub mod Examples
 pub mod CoatingShop
 pub mod Fab
 pub mod Relay
+pub mod Mailboxes
 pub mod Refused

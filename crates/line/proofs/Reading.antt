@@ -10,7 +10,7 @@ use borrow.Author.Tests.{le-leb, lt-leb}
 use Rattle.wire.specs.Splice.{splice}
 use Rattle.order.specs.Talk.{part-given, refused, dropped, no-transfer, value}
 use Rattle.order.specs.Talk.{opened}
-use Rattle.order.specs.Serve.{toggle-code, read-opening, give-part, read-part}
+use Rattle.order.specs.Serve.{Form, toggle-code, Reply, over, read-opening, give-part, read-part}
 use Rattle.table.specs.Row.{WO, CARD}
 use Rattle.table.specs.Rows.{at-row, row-count}
 use Rattle.table.specs.Find.{find-row}
@@ -67,16 +67,23 @@ module _ (at : ℕ) (s a : List ℕ) (t : Transfer) (long : length (t .held) ≡
       rw (n, lt-leb (t .len) (t .place + 7) h)
       (onwards-replied at s a t _ _ _ (q ∙ ap (λ (l : List ℕ). answer-of (part-given (t .toggle) l false)) (sym (part-within 7 (t .place) (t .len) (t .held) (omega arith)))) (i ∙ sym (lay-reading t 7 (omega arith))) p)
 
--- the record says whether a read is under way, and then its toggle whether the part is given
+-- the record says whether a read is under way, and then its toggle whether the part is given, in any form
+module _ (F : Form) (t : Transfer) (u : Bool) (reads : (is-reading (t .direction) && counts t) ≡ true) where
+  pub part-goes : Bool·beq (t .toggle) u ≡ true → give-part plain F (key-at (t .row)) (take (t .len) (t .held)) (t .place) (t .toggle) ≡ read-part plain F (view t) u
+  unfolding read-part
+  part-goes h = sym (rw (view-reading t reads, h))
+
+  pub part-drops : Bool·beq (t .toggle) u ≡ false → over plain (dropped (key-at (t .row)) toggle-code) ≡ read-part plain F (view t) u
+  unfolding read-part
+  part-drops h = sym (rw (view-reading t reads, h))
+
 module _ (at : ℕ) (s a : List ℕ) (t : Transfer) (u : Bool) {x : Laid} where
   module _ (reads : (is-reading (t .direction) && counts t) ≡ true) where
     pub next-given : Bool·beq (t .toggle) u ≡ true → x ≡ replied at s a t (give-part plain eight (key-at (t .row)) (take (t .len) (t .held)) (t .place) (t .toggle)) → x ≡ replied at s a t (read-part plain eight (view t) u)
-    unfolding read-part
-    next-given h p = p ∙ ap (replied at s a t) (sym (rw (view-reading t reads, h)))
+    next-given h p = p ∙ ap (replied at s a t) (part-goes eight t u reads h)
 
     pub next-dropped : Bool·beq (t .toggle) u ≡ false → x ≡ put-down at s a zero-record (answer-of (dropped (key-at (t .row)) toggle-code)) → x ≡ replied at s a t (read-part plain eight (view t) u)
-    unfolding read-part
-    next-dropped h p = over-replied at s a t _ refl p ∙ ap (replied at s a t) (sym (rw (view-reading t reads, h)))
+    next-dropped h p = over-replied at s a t _ refl p ∙ ap (replied at s a t) (part-drops eight t u reads h)
 
   pub next-none : {e : List ℕ} → (is-reading (t .direction) && counts t) ≡ false → e ≡ answer-of no-transfer → x ≡ put-down at s a zero-record e → x ≡ replied at s a t (read-part plain eight (view t) u)
   next-none h q p = over-replied at s a t no-transfer q p ∙ ap (replied at s a t) (sym (no-reading t bag552 eight u h))
@@ -103,25 +110,34 @@ module _ (values : List ℕ) (row : ℕ) (there : row < row-count) (long : lengt
     read-short h q p =
         rw (whole-length, h, take-all len (value-of (at-row row) values) (omega (arith, whole-length))) (over-replied at s a (zero-record-at row) _ q p)
 
-    pub read-long : {held : List ℕ} {n : Transfer} → short len ≡ false → held ≡ filled (value-of (at-row row) values) → n ≡ opened-record Reads row held len
+    pub read-long : {held : List ℕ} {n : Transfer} → short len ≡ false → held ≡ filled (value-of (at-row row) values) → n ≡ opened-record Reads row held len 0
         → e ≡ answer-of (opened k len [] false) → x ≡ put-down at s a n e → x ≡ replied at s a (zero-record-at row) (read-opening plain eight k (value (value-of (at-row row) values)))
     unfolding read-opening eight
     read-long h i j q p =
         rw (whole-length, h)
         (onwards-replied at s a (zero-record-at row) _ _ _ q (j ∙ rw (i, ← whole-length) (sym (lay-opened row k (value-of (at-row row) values)))) p)
 
--- a read goes through the gate of its key
+-- the opening of a read, in any form
+abbrev pub opening : Form → List ℕ → List ℕ → Key → Reply plain
+opening F v s k = read-opening plain F k (read-whole (store-of v [] s) (k .index) (k .sub))
+
+-- it goes through the gate of its key
+module _ (F : Form) (v s : List ℕ) (k : Key) {g : Gate} (way : way-of g ≡ read-gate (find-row (k .index) (k .sub))) where
+  pub way-row : (row shape : ℕ) → g ≡ Open row shape → row-of k ≡ row
+  way-row row shape o = found-number k row (gate-opened WO write-only (k .index) (k .sub) row (find-row (k .index) (k .sub)) refl (leads WO write-only k way row shape o) .found)
+
+  pub way-opens : (row shape : ℕ) → g ≡ Open row shape → read-opening plain F k (value (value-of (at-row row) v)) ≡ opening F v s k
+  unfolding read-through
+  way-opens row shape o = sym (rw (read-by-gate (k .index) (k .sub) (store-of v [] s), leads WO write-only k way row shape o))
+
+  pub way-stops : (c : ℕ) → g ≡ Shut c → over plain (refused k c) ≡ opening F v s k
+  unfolding read-opening read-through
+  way-stops c o = sym (rw (read-by-gate (k .index) (k .sub) (store-of v [] s), stops WO write-only k way c o))
+
 module _ (at : ℕ) (v s a : List ℕ) (k : Key) {g : Gate} (way : way-of g ≡ read-gate (find-row (k .index) (k .sub))) {x : Laid} where
   pub read-led : (row shape : ℕ) → g ≡ Open row shape → x ≡ replied at s a (zero-record-at row) (read-opening plain eight k (value (value-of (at-row row) v)))
-      → x ≡ replied at s a (zero-record-at (row-of k)) (read-opening plain eight k (read-whole (store-of v [] s) (k .index) (k .sub)))
-  unfolding read-through
-  read-led row shape o p =
-      let w = leads WO write-only k way row shape o in
-      let f = gate-opened WO write-only (k .index) (k .sub) row (find-row (k .index) (k .sub)) refl w .found in
-      p ∙ rw (found-number k row f, read-by-gate (k .index) (k .sub) (store-of v [] s), w)
+      → x ≡ replied at s a (zero-record-at (row-of k)) (opening eight v s k)
+  read-led row shape o p = rw (way-row eight v s k way row shape o) (p ∙ ap (replied at s a (zero-record-at row)) (way-opens eight v s k way row shape o))
 
-  pub read-stopped : (c : ℕ) → g ≡ Shut c → x ≡ put-down at s a zero-record (answer-of (refused k c))
-      → x ≡ replied at s a (zero-record-at (row-of k)) (read-opening plain eight k (read-whole (store-of v [] s) (k .index) (k .sub)))
-  unfolding read-opening read-through
-  read-stopped c o p =
-      over-replied at s a (zero-record-at (row-of k)) (refused k c) refl p ∙ rw (read-by-gate (k .index) (k .sub) (store-of v [] s), stops WO write-only k way c o)
+  pub read-stopped : (c : ℕ) → g ≡ Shut c → x ≡ put-down at s a zero-record (answer-of (refused k c)) → x ≡ replied at s a (zero-record-at (row-of k)) (opening eight v s k)
+  read-stopped c o p = over-replied at s a (zero-record-at (row-of k)) (refused k c) refl p ∙ ap (replied at s a (zero-record-at (row-of k))) (way-stops eight v s k way c o)

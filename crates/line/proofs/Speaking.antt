@@ -47,7 +47,7 @@ module _ (k : Key) {g : Gate} (way : way-of g ≡ write-gate (find-row (k .index
       let o = gate-opened RO read-only (k .index) (k .sub) row (find-row (k .index) (k .sub)) refl (leads RO read-only k way row sh q) in
       (record { there = find-at (k .index) (k .sub) row (o .found) .there; open-to-writes = o .allowed }, o .found, shaped row sh h q)
 
-  shut-sizes : (code : ℕ) → g ≡ Shut code → write-sizes (k .index) (k .sub) ≡ closed code
+  pub shut-sizes : (code : ℕ) → g ≡ Shut code → write-sizes (k .index) (k .sub) ≡ closed code
   unfolding sizes-of
   shut-sizes code q = sizes-by-gate (k .index) (k .sub) ∙ ap sizes-of (stops RO read-only k way code q)
 
@@ -117,7 +117,7 @@ module _ (at : ℕ) (v b s a m : List ℕ) where
 
     -- the entry's row may be written
     module _ (row low high : ℕ) (w : Writable row) (found : find-row (k .index) (k .sub) ≡ At row) (l : low ≡ smallest (at-row row)) (h : high ≡ largest (at-row row)) where
-      row-sizes : write-sizes (k .index) (k .sub) ≡ sizes low high
+      pub row-sizes : write-sizes (k .index) (k .sub) ≡ sizes low high
       unfolding gate sizes-of
       row-sizes = sizes-by-gate (k .index) (k .sub) ∙ rw (found, ne-eqb (at-row row .access) RO (w .open-to-writes), l, h)
 
@@ -143,4 +143,4 @@ module _ (at : ℕ) (v b s a m : List ℕ) where
       pub said-unsaid : {s′ a′ : List ℕ} → heard-of m ≡ Asks (OpenWrite k Unsaid)
           → laid s′ a′ ≡ replied at s a (zero-record-at row) (write-opening plain k [] (sizes high high)) → told v b s′ a′ ≡ message-told at m v b s a
       unfolding narrow narrowed
-      said-unsaid e q = by-table Unsaid (sizes low high) e row-sizes (row-parts _ (q ∙ smallest-forgotten at s a k row low high))
+      said-unsaid e q = by-table Unsaid (sizes low high) e row-sizes (row-parts _ (q ∙ smallest-forgotten at s a k row [] low high))

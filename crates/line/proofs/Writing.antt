@@ -1,11 +1,11 @@
 -- Writes: what the definitions come to under the tests that the code makes. Assumes nothing.
 use mathlib.Core.Path.{_≡_, refl, sym, ap, ap₂, _∙_}
 use mathlib.Core.Bool.{Bool, true, false, cond, not, Bool·beq, _&&_, false≢true}
-use mathlib.Core.List.{List, [], _++_}
+use mathlib.Core.List.{List, _++_}
 use Prim.Native.Nat.{ℕ, _+_, _≤_, _<_}
 use native.Mathlib.Omega.{arith}
 use lib.Dec.{leb, ltb}
-use lib.ListN.{length, take, replicate, length-take}
+use lib.ListN.{length, take, length-take}
 use borrow.Author.Tests.{ltb-true, ltb-false, lt-ltb, le-ltb, lt-leb, le-leb, eq-eqb, ne-eqb}
 use Rattle.wire.specs.Splice.{splice}
 use Rattle.wire.specs.Little.{little}
@@ -30,11 +30,11 @@ use Rattle.transfer.specs.declared.Direction.{Direction}
 use Rattle.transfer.specs.declared.Direction.the-variants.{Neither, Reads, Writes}
 use Rattle.transfer.specs.declared.Transfer.{Transfer}
 use Rattle.transfer.specs.Records.{zero-record, zero-record-at, key-at, allows, counts, view, lay}
-use Rattle.transfer.specs.Turns.{is-writing, opened-record, grown}
+use Rattle.transfer.specs.Turns.{is-writing, filled, opened-record, grown}
 use Rattle.transfer.proofs.RecordLaws.{view-writing, no-writing, held-fits, sent-length, lay-writing, lay-begun}
 use Rattle.state.specs.State.{record-at, record-bytes, fresh-state, settled}
 use Rattle.line.specs.Gauge.{bag552, plain, store-of}
-use Rattle.line.specs.Serving.{Laid, laid, put-down, ended-by, misfit-code, replied, Told, told, told-by, spoken-over, Writable}
+use Rattle.line.specs.Serving.{Laid, laid, put-down, ended-by, misfit-code, replied, replied-as, Told, told, told-by, spoken-over, Writable}
 use Rattle.line.proofs.Told.{over-replied, onwards-replied, laid-told, over-told}
 
 -- ---- a length judged
@@ -74,7 +74,7 @@ module _ (low high n : ℕ) {fits : Bool} (e : fits ≡ by-length low high n (λ
       go false true p r q = let z : _≡_ {A = ℕ} 0 1 = cc in absurd (omega arith)
       go false false p r q = (r refl, p refl)
 
-let-through : {A : Type 0} (low high n : ℕ) (refuse : ℕ → A) (pass : A) → low ≤ n → n ≤ high → by-length low high n refuse pass ≡ pass
+pub let-through : {A : Type 0} (low high n : ℕ) (refuse : ℕ → A) (pass : A) → low ≤ n → n ≤ high → by-length low high n refuse pass ≡ pass
 unfolding by-length
 let-through low high n refuse pass l h = rw (le-ltb high n h, le-ltb n low l)
 
@@ -253,37 +253,40 @@ module _ (at : ℕ) (s a : List ℕ) where
         (onwards-replied at s a t (grown t bytes) _ (part-taken (t .toggle)) e (sym (lay-writing t bytes inside (t .len))) (ap₂ laid p r))
 
   module _ (k : Key) (row : ℕ) where
-    pub parts-opened : (len : ℕ) {next : Transfer} {x : Laid} {eight : List ℕ} → next ≡ opened-record Writes row (replicate 64 0) len → eight ≡ answer-of (write-opened k)
-        → x ≡ put-down at s a next eight → x ≡ replied at s a (zero-record-at row) (write-opening plain k [] (sizes len len))
+    -- with the bytes that the opening brings
+    pub parts-opened : (len : ℕ) (bytes : List ℕ) {next : Transfer} {x : Laid} {eight : List ℕ} → length bytes ≤ len → next ≡ opened-record Writes row (filled bytes) len (length bytes)
+        → eight ≡ answer-of (write-opened k) → x ≡ put-down at s a next eight → x ≡ replied at s a (zero-record-at row) (write-opening plain k bytes (sizes len len))
     unfolding write-opening take-more
-    parts-opened len n e q =
-        rw (le-ltb len 0 (omega arith)) (onwards-replied at s a (zero-record-at row) _ (writing k len len [] false) (write-opened k) e (n ∙ sym (lay-begun row k len len)) q)
+    parts-opened len bytes h n e q =
+        rw (le-ltb len (length bytes) h)
+        (onwards-replied at s a (zero-record-at row) _ (writing k len len bytes false) (write-opened k) e (n ∙ sym (lay-begun row k len len bytes)) q)
 
-    -- the record does not keep the smallest length
-    pub smallest-forgotten : (low high : ℕ) → replied at s a (zero-record-at row) (write-opening plain k [] (sizes high high)) ≡ replied at s a (zero-record-at row) (write-opening plain k [] (sizes low high))
-    unfolding write-opening take-more replied lay
-    smallest-forgotten low high = go (ltb high 0)
-      where
-        go : (d : Bool)
-            → replied at s a (zero-record-at row) (cond d (refuse plain k too-long) (onwards plain (writing k high high [] false) (write-opened k)))
-            ≡ replied at s a (zero-record-at row) (cond d (refuse plain k too-long) (onwards plain (writing k low high [] false) (write-opened k)))
-        go true = refl
-        go false = refl
+    module _ (bytes : List ℕ) where
+      abbrev parts-replied : Sizes → Laid
+      parts-replied z = replied at s a (zero-record-at row) (write-opening plain k bytes z)
 
-    module _ (low high n : ℕ) {fits : Bool} (f : fits ≡ by-length low high n (λ c. false) true) where
-      pub announced-refused : {x : Laid} → fits ≡ false → x ≡ put-down at s a zero-record (answer-of (refused k (misfit-code high n)))
-          → x ≡ replied at s a (zero-record-at row) (write-opening plain k [] (narrowed low high (announced n)))
-      unfolding write-opening narrowed
-      announced-refused d q =
-          over-replied at s a (zero-record-at row) (refused k (misfit-code high n)) refl q
-          ∙ ap (λ (z : Sizes). replied at s a (zero-record-at row) (write-opening plain k [] z)) (sym (by-misfit low high n f closed (sizes n n) d))
+      -- the record does not keep the smallest length
+      pub smallest-forgotten : (low high : ℕ) → parts-replied (sizes high high) ≡ parts-replied (sizes low high)
+      unfolding write-opening take-more replied-as lay
+      smallest-forgotten low high = go (ltb high (length bytes))
+        where
+          go : (d : Bool)
+              → replied at s a (zero-record-at row) (cond d (refuse plain k too-long) (onwards plain (writing k high high bytes false) (write-opened k)))
+              ≡ replied at s a (zero-record-at row) (cond d (refuse plain k too-long) (onwards plain (writing k low high bytes false) (write-opened k)))
+          go true = refl
+          go false = refl
 
-      pub announced-right : {x : Laid} → fits ≡ true → x ≡ replied at s a (zero-record-at row) (write-opening plain k [] (sizes n n))
-          → x ≡ replied at s a (zero-record-at row) (write-opening plain k [] (narrowed low high (announced n)))
-      unfolding narrowed
-      announced-right z q =
-          let in-range = within low high n f z in
-          q ∙ ap (λ (y : Sizes). replied at s a (zero-record-at row) (write-opening plain k [] y)) (sym (let-through low high n closed (sizes n n) (in-range .0) (in-range .1)))
+      module _ (low high n : ℕ) {fits : Bool} (f : fits ≡ by-length low high n (λ c. false) true) where
+        pub announced-refused : {x : Laid} → fits ≡ false → x ≡ put-down at s a zero-record (answer-of (refused k (misfit-code high n))) → x ≡ parts-replied (narrowed low high (announced n))
+        unfolding write-opening narrowed
+        announced-refused d q =
+            over-replied at s a (zero-record-at row) (refused k (misfit-code high n)) refl q ∙ ap parts-replied (sym (by-misfit low high n f closed (sizes n n) d))
+
+        pub announced-right : {x : Laid} → fits ≡ true → x ≡ parts-replied (sizes n n) → x ≡ parts-replied (narrowed low high (announced n))
+        unfolding narrowed
+        announced-right z q =
+            let in-range = within low high n f z in
+            q ∙ ap parts-replied (sym (let-through low high n closed (sizes n n) (in-range .0) (in-range .1)))
 
 -- ---- a part, by the record
 
@@ -299,17 +302,22 @@ module _ (at : ℕ) (v b s a : List ℕ) (t : Transfer) (u : Bool) (bytes : List
       seen : {x : Told} → x ≡ sent-seen (writing (key-at (t .row)) (t .len) (t .len) (take (t .place) (t .held)) (t .toggle)) → x ≡ sent (record-at s at)
       seen q = q ∙ ap sent-seen (sym (view-writing t writes)) ∙ ap sent held
 
+      pub sent-right : {x : Told} → Bool·beq (t .toggle) u ≡ true
+          → x ≡ told-by at s a (spoken-over t (take-part plain (store-of v b s) (key-at (t .row)) (t .len) (t .len) (take (t .place) (t .held) ++ bytes) (not (t .toggle)) last (part-taken (t .toggle))))
+          → x ≡ sent (record-at s at)
+      unfolding write-part
+      sent-right r q = seen (rw r q)
+
       pub sent-last : {x : Told} → Bool·beq (t .toggle) u ≡ true → last ≡ true
           → x ≡ told-by at s a (spoken-over t (take-part plain (store-of v b s) (key-at (t .row)) (t .len) (t .len) (take (t .place) (t .held) ++ bytes) (not (t .toggle)) true (part-taken (t .toggle))))
           → x ≡ sent (record-at s at)
-      unfolding write-part
-      sent-last r l q = seen (rw (r, l) q)
+      sent-last r l q = sent-right r (rw l q)
 
       pub sent-more : {s′ a′ : List ℕ} → Bool·beq (t .toggle) u ≡ true → last ≡ false
           → laid s′ a′ ≡ replied at s a t (take-more plain (key-at (t .row)) (t .len) (t .len) (take (t .place) (t .held) ++ bytes) (not (t .toggle)) (part-taken (t .toggle)))
           → told v b s′ a′ ≡ sent (record-at s at)
-      unfolding write-part take-part
-      sent-more r l q = seen (rw (r, l) (laid-told at s a v b t _ q))
+      unfolding take-part
+      sent-more r l q = sent-right r (rw l (laid-told at s a v b t _ q))
 
       pub sent-wrong : {k : Key} {s′ a′ : List ℕ} → Bool·beq (t .toggle) u ≡ false → k ≡ key-at (t .row) → laid s′ a′ ≡ put-down at s a zero-record (answer-of (dropped k toggle-code))
           → told v b s′ a′ ≡ sent (record-at s at)

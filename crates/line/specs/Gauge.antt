@@ -4,7 +4,7 @@ use mathlib.Core.List.{List}
 use lib.Ieee.{Float}
 use Rattle.sample.specs.Sample.{values-after, trips-after}
 use Rattle.order.specs.Gauge.{Gauge}
-use Rattle.sdo.specs.Lines.{Entries, gauge}
+use Rattle.sdo.specs.Entries.{Entries, gauge}
 use Rattle.state.specs.State.{trips-at}
 use Rattle.gauge.specs.Memory.{Store, memory-of, with-values}
 use Rattle.gauge.specs.Whole.{read-whole, commit-whole, write-sizes}

@@ -6,7 +6,7 @@ use lib.Dec.{ltb}
 use mathlib.Core.Path.{_≡_}
 use lib.ListN.{length}
 use Rattle.wire.specs.Splice.{splice}
-use Rattle.order.specs.Talk.{refused}
+use Rattle.order.specs.Talk.{Answer, refused}
 use Rattle.order.specs.Gauge.{too-long, too-short}
 use Rattle.order.specs.Serve.{Reply, Served, remains}
 use Rattle.order.specs.Keep.{Spoken, is-wiped, speak}
@@ -15,6 +15,7 @@ use Rattle.table.specs.Rows.{row-count, at-row}
 use Rattle.gauge.specs.declared.commit.Ending.{Ending}
 use Rattle.gauge.specs.declared.commit.Ending.the-variants.{Accepted, Restarted, Refused}
 use Rattle.transfer.specs.declared.Transfer.{Transfer}
+use Rattle.sdo.specs.declared.Key.{Key}
 use Rattle.sdo.specs.Eight.{answer-of, eight-bytes}
 use Rattle.transfer.specs.Records.{zero-record, key-at, lay, transfers}
 use Rattle.state.specs.State.{state-size, record-size, record-at, record-bytes, fresh-state, settled}
@@ -33,10 +34,14 @@ laid state answer = record { state = state; answer = answer }
 unfoldable pub put-down : ℕ → List ℕ → List ℕ → Transfer → List ℕ → Laid
 put-down at state room next bytes = laid (splice state at (record-bytes next)) (splice room 0 bytes)
 
--- a reply, its record laid over b
-unfoldable pub replied : ℕ → List ℕ → List ℕ → Transfer → Reply plain → Laid
+-- a reply, its record laid over b, the answer's bytes spelled so
+unfoldable pub replied-as : (Answer Key → List ℕ) → ℕ → List ℕ → List ℕ → Transfer → Reply plain → Laid
 unfolding put-down
-replied at state room b r = put-down at state room (lay b (r .next)) (answer-of (r .answer))
+replied-as spell at state room b r = put-down at state room (lay b (r .next)) (spell (r .answer))
+
+-- in eight bytes
+abbrev pub replied : ℕ → List ℕ → List ℕ → Transfer → Reply plain → Laid
+replied at state room b r = replied-as answer-of at state room b r
 
 -- a whole write of a row that ended so: the answer that says yes stands in the room already, an abort takes its place
 unfoldable pub ended-by : ℕ → ℕ → List ℕ → List ℕ → Ending → Laid
@@ -62,9 +67,12 @@ told values block state answer = record { values = values; block = block; state 
 unfoldable pub told-by : ℕ → List ℕ → List ℕ → Spoken plain transfers → Told
 told-by at state room s = told (s .store .memory .values) (s .store .memory .block) (settled at (s .next) (s .reset) state) (splice room 0 (s .bytes))
 
--- a request served, its record laid over b
+-- a request served, its record laid over b, the answer's bytes spelled so
+abbrev pub spoken-as : (Answer Key → List ℕ) → Transfer → Served plain → Spoken plain transfers
+spoken-as spell b s = record { store = s .store; next = lay b (remains (s .after)); reset = is-wiped (s .after); bytes = spell (s .answer) }
+
 abbrev pub spoken-over : Transfer → Served plain → Spoken plain transfers
-spoken-over b s = record { store = s .store; next = lay b (remains (s .after)); reset = is-wiped (s .after); bytes = answer-of (s .answer) }
+spoken-over b s = spoken-as answer-of b s
 
 -- a message m of the line whose record stands at a place
 abbrev pub message-told : ℕ → List ℕ → List ℕ → List ℕ → List ℕ → List ℕ → Told

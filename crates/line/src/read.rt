@@ -70,7 +70,7 @@ pub fn next_part(state: &mut [u8], at: usize, toggle: bool, room: &mut [u8])
 
 // The answer that opens a read of up to four bytes. An entry that stands in the values is shown from there, with no copy; the card is
 // longer, so the rest are command words.
-fn short_answer(values: &[u8], k: Key, row: usize, kind: u8, len: usize) -> [u8; 8]
+pub fn short_answer(values: &[u8], k: Key, row: usize, kind: u8, len: usize) -> [u8; 8]
     requires { ⌜ (length (now values) ≡ 1024) × ((row < row-count) × (k ≡ key-at row)) × (kind ≡ at-row row .kind) × (len ≡ at-row row .len) × ((1 ≤ len) × (len ≤ 4)) ⌝ }
     ensures { λ r. ⌜ r ≡ answer-of (opened k len (value-of (at-row row) (now (values .entry))) true) ⌝ }
 {
@@ -102,7 +102,7 @@ fn open_row(
         return;
     }
     let held = gauge::read::value_of(values, row, kind, len);
-    let next = transfer::opened(Direction::Reads, row, held, len);
+    let next = transfer::opened(Direction::Reads, row, held, len, 0);
     reply::going(state, at, next, room, answer::opened_long(k, len));
 }
 

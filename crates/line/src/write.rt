@@ -30,7 +30,7 @@ ghost use Rattle.line.specs.Gauge.{plain, store-of};
 ghost use Rattle.line.specs.Serving.{Room, Ready, Writable, laid, replied, ended-by, told, told-by, spoken-over, message-told};
 
 // May a value have the length that a client says or has sent, by the smallest and the largest?
-fn length_fits(low: usize, high: usize, n: usize) -> bool
+pub fn length_fits(low: usize, high: usize, n: usize) -> bool
     ensures { λ r. ⌜ r ≡ by-length low high n (λ c. false) true ⌝ }
 {
     if n < low {
@@ -41,7 +41,7 @@ fn length_fits(low: usize, high: usize, n: usize) -> bool
 
 // A whole write that ended so ends the transfer; after a device reset no line has one. The room has the answer that says yes already, so
 // nothing more is told; where the write is refused the abort takes its place.
-fn conclude(state: &mut [u8], at: usize, row: usize, ending: Ending, room: &mut [u8])
+pub fn conclude(state: &mut [u8], at: usize, row: usize, ending: Ending, room: &mut [u8])
     requires { ⌜ Room at (now state) (now room) × (length (now state) ≡ state-size) × (row < row-count) ⌝ }
     ensures { λ _. ⌜ laid (now (state .exit)) (now (room .exit)) ≡ ended-by at row (now (state .entry)) (now (room .entry)) ending ⌝ }
 {
@@ -149,12 +149,12 @@ fn open_parts(state: &mut [u8], at: usize, k: Key, row: usize, len: usize, room:
     requires { ⌜ Room at (now state) (now room) × (len ≤ 64) ⌝ }
     ensures { λ _. ⌜ laid (now (state .exit)) (now (room .exit)) ≡ replied at (now (state .entry)) (now (room .entry)) (zero-record-at row) (write-opening plain k [] (sizes len len)) ⌝ }
 {
-    let next = transfer::opened(Direction::Writes, row, [0; 64], len);
+    let next = transfer::opened(Direction::Writes, row, [0; 64], len, 0);
     reply::going(state, at, next, room, answer::write_opened(k));
 }
 
 // A write of the value that is lent, of the row's own length.
-fn with_value(
+pub fn with_value(
     values: &mut [u8],
     block: &mut [u8],
     state: &mut [u8],
@@ -174,7 +174,7 @@ fn with_value(
 }
 
 // A write of the count bytes of m, from a byte on.
-fn write_sized(
+pub fn write_sized(
     values: &mut [u8],
     block: &mut [u8],
     state: &mut [u8],
@@ -208,7 +208,7 @@ fn write_sized(
 }
 
 // A write of the entry's own length, of the count bytes that stand from a byte on.
-fn write_own(
+pub fn write_own(
     values: &mut [u8],
     block: &mut [u8],
     state: &mut [u8],

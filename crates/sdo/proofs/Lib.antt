@@ -1,4 +1,5 @@
 pub mod Facts
 pub mod RoundTrip
 pub mod HeardLaws
+pub mod LongTrip
 pub mod Carries

@@ -1,2 +1,3 @@
 pub mod Eight
-pub mod Lines
+pub mod Entries
+pub mod Long

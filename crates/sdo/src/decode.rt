@@ -17,7 +17,7 @@ pub fn bit_of(weight: u8, b: u8) -> bool
 }
 
 pub fn key_of(m: &[u8]) -> Key
-    requires { ⌜ length (now m) ≡ 8 ⌝ }
+    requires { ⌜ 8 ≤ length (now m) ⌝ }
     ensures { λ r. ⌜ r ≡ key-of (now (m .entry)) ⌝ }
 {
     let low = wide::to_u16(m[1]);
@@ -30,7 +30,7 @@ pub fn key_of(m: &[u8]) -> Key
 
 // The opening of a write: with the value in it or not, with a length or not.
 pub fn opening_of(m: &[u8]) -> Opening
-    requires { ⌜ length (now m) ≡ 8 ⌝ }
+    requires { ⌜ 8 ≤ length (now m) ⌝ }
     ensures { λ r. ⌜ r ≡ opening-of (now (m .entry)) ⌝ }
 {
     let first = m[0];
@@ -47,7 +47,7 @@ pub fn opening_of(m: &[u8]) -> Opening
 }
 
 pub fn heard_of(m: &[u8]) -> Heard
-    requires { ⌜ length (now m) ≡ 8 ⌝ }
+    requires { ⌜ 8 ≤ length (now m) ⌝ }
     ensures { λ r. ⌜ r ≡ heard-of (now (m .entry)) ⌝ }
 {
     let first = m[0];

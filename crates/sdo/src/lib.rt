@@ -2,6 +2,9 @@
 pub mod answer;
 pub mod decode;
 
+// How many bytes every message and answer has, or begins with.
+pub const SIZE: usize = 8;
+
 // The bytes of a part and where they begin; the room for a value in an opening and where it begins.
 pub const PART: usize = 7;
 

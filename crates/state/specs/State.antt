@@ -1,4 +1,4 @@
--- RULE: the state bytes, as docs/STATE.md lays them out (R14.1): both transfer records and the trip states. Assumes nothing.
+-- RULE: the state bytes, as docs/STATE.md lays them out (R14.1): both transfer records, the trip states and the form of line 0. Assumes nothing.
 use mathlib.Core.Bool.{Bool, cond}
 use mathlib.Core.List.{List, _++_}
 use Prim.Native.Nat.{ℕ, _+_, _*_}
@@ -27,6 +27,9 @@ record-place line = 96 * line
 
 abbrev pub trips-place : ℕ
 trips-place = 192
+
+abbrev pub form-place : ℕ
+form-place = 196
 
 -- direction: 1 read, 2 write, any other value none
 unfoldable pub direction-of : ℕ → Direction
@@ -68,7 +71,14 @@ trips-at s =
 unfoldable pub trips-bytes : Trips → List ℕ
 trips-bytes t = flags (t .one .high) (t .one .low) (t .two .high) (t .two .low)
 
--- power-up and device reset (R9.3)
+-- does the tool's line speak in mailboxes? (R14.3)
+unfoldable pub form-at : List ℕ → Bool
+form-at s = is-set s form-place
+
+abbrev pub form-bytes : Bool → List ℕ
+form-bytes boxed = little 1 (bit boxed)
+
+-- power-up and device reset (R9.3); the form stays
 unfoldable pub fresh-state : List ℕ → List ℕ
 fresh-state state = splice (splice (splice state (record-place 0) (record-bytes zero-record)) (record-place 1) (record-bytes zero-record)) trips-place (trips-bytes all-off)
 

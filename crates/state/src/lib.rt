@@ -11,7 +11,7 @@ ghost use lib.ListN.{length, take, drop};
 ghost use Rattle.wire.specs.Splice.{splice};
 ghost use Rattle.transfer.specs.Records.{zero-record};
 ghost use Rattle.transfer.specs.Turns.{grown};
-ghost use Rattle.state.specs.State.{record-at, record-tail, record-bytes, trips-place, trips-at, trips-bytes, direction-of, direction-byte, state-size, record-size, fresh-state};
+ghost use Rattle.state.specs.State.{record-at, record-tail, record-bytes, trips-place, trips-at, trips-bytes, direction-of, direction-byte, state-size, record-size, form-place, form-at, form-bytes, fresh-state};
 
 // How many they are, where each line's record and the trip states stand, and how many bytes a record has.
 pub const SIZE: usize = 256;
@@ -23,6 +23,8 @@ pub const SERVICE: usize = 96;
 pub const RECORD: usize = 70;
 
 const TRIPS: usize = 192;
+
+const FORM: usize = 196;
 
 fn direction_of(n: u8) -> Direction
     ensures { λ r. ⌜ r ≡ direction-of n ⌝ }
@@ -148,7 +150,22 @@ pub fn put_trips(state: &mut [u8], t: Trips)
     wire::put_flags(state, TRIPS, one.high, one.low, two.high, two.low);
 }
 
-// Both records all zero and the trips off.
+// Does the tool's line speak in mailboxes? A byte other than 0 says so.
+pub fn form_at(state: &[u8]) -> bool
+    requires { ⌜ length (now state) ≡ state-size ⌝ }
+    ensures { λ r. ⌜ r ≡ form-at (now (state .entry)) ⌝ }
+{
+    wire::is_set(state, FORM)
+}
+
+pub fn put_form(state: &mut [u8], boxed: bool)
+    requires { ⌜ length (now state) ≡ state-size ⌝ }
+    ensures { λ _. ⌜ now (state .exit) ≡ splice (now (state .entry)) form-place (form-bytes boxed) ⌝ }
+{
+    wire::put_byte(state, FORM, bit_of(boxed));
+}
+
+// Both records all zero and the trips off; the form stays.
 pub fn drop_all(state: &mut [u8])
     requires { ⌜ length (now state) ≡ state-size ⌝ }
     ensures { λ _. ⌜ now (state .exit) ≡ fresh-state (now (state .entry)) ⌝ }

@@ -55,7 +55,7 @@ fn main() {
     let mut values = [0u8; board::VALUES_SIZE];
     let mut block = [0u8; board::BLOCK_SIZE];
     let mut state = [0u8; board::STATE_SIZE];
-    board::gauge_power_up(&mut values, &block, &mut state);
+    board::gauge_power_up(board::FORM_EIGHT, &mut values, &block, &mut state);
     let last = hear_all(&mut values, &mut block, &mut state);
     if hear::is_left(last) {
         serve::serve_line(last, &mut values, &mut block, &mut state);

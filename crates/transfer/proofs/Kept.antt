@@ -14,7 +14,7 @@ use Rattle.order.specs.Keep.{speak, Again, Keeps}
 use Rattle.order.proofs.Kept.{abort-drops}
 use Rattle.sdo.specs.declared.Key.{Key}
 use Rattle.sdo.specs.Eight.{ask-of, eight, eight-bytes}
-use Rattle.sdo.specs.Lines.{Entries, gauge}
+use Rattle.sdo.specs.Entries.{Entries, gauge}
 use Rattle.sdo.proofs.RoundTrip.{abort-told}
 use Rattle.transfer.specs.declared.Direction.the-variants.{Reads, Writes}
 use Rattle.transfer.specs.declared.Transfer.{Transfer}

@@ -20,7 +20,7 @@ use Rattle.table.specs.Find.{At, find-row, row-number}
 use Rattle.table.proofs.Lengths.{largest-is}
 use Rattle.table.proofs.Table.{row-rule, find-at, row-found}
 use Rattle.sdo.specs.declared.Key.{Key}
-use Rattle.sdo.specs.Lines.{Entries, gauge}
+use Rattle.sdo.specs.Entries.{Entries, gauge}
 use Rattle.transfer.specs.declared.Direction.{Direction}
 use Rattle.transfer.specs.declared.Direction.the-variants.{Neither, Reads, Writes}
 use Rattle.transfer.specs.declared.Transfer.{Transfer}
@@ -271,13 +271,14 @@ part-within n (suc p) (suc m) (x ∷ xs) h = part-within n p m xs (omega arith)
 -- ---- the record after an opening
 
 -- of a read whose answer carries none of the value
-pub lay-opened : (row : ℕ) (k : Key) (bytes : List ℕ) → lay (zero-record-at row) (reading k bytes 0 false) ≡ opened-record Reads row (filled bytes) (length bytes)
+pub lay-opened : (row : ℕ) (k : Key) (bytes : List ℕ) → lay (zero-record-at row) (reading k bytes 0 false) ≡ opened-record Reads row (filled bytes) (length bytes) 0
 unfolding lay splice
 lay-opened row k bytes = rw (zero-add (length bytes))
 
-pub lay-begun : (row : ℕ) (k : Key) (low high : ℕ) → lay (zero-record-at row) (writing k low high [] false) ≡ opened-record Writes row (replicate 64 0) high
-unfolding lay
-lay-begun row k low high = refl
+-- of a write that brings bytes with its opening
+pub lay-begun : (row : ℕ) (k : Key) (low high : ℕ) (bytes : List ℕ) → lay (zero-record-at row) (writing k low high bytes false) ≡ opened-record Writes row (filled bytes) high (length bytes)
+unfolding lay splice
+lay-begun row k low high bytes = rw (zero-add (length bytes))
 
 -- the bytes that a whole value's record begins with
 pub filled-value : (bytes : List ℕ) (len : ℕ) → length bytes ≡ len → take len (filled bytes) ≡ bytes

@@ -12,7 +12,7 @@ use Rattle.table.specs.Rows.{row-count, at-row}
 use Rattle.table.specs.Row.{RO, WO, smallest, largest, Allowed}
 use Rattle.table.specs.Find.{At, find-row, row-number}
 use Rattle.sdo.specs.declared.Key.{Key}
-use Rattle.sdo.specs.Lines.{Entries}
+use Rattle.sdo.specs.Entries.{Entries}
 use Rattle.transfer.specs.declared.Direction.{Direction}
 use Rattle.transfer.specs.declared.Direction.the-variants.{Neither, Reads, Writes}
 use Rattle.transfer.specs.declared.Transfer.{Transfer}

@@ -22,9 +22,9 @@ is-writing Writes = true
 abbrev pub filled : List ℕ → List ℕ
 filled bytes = splice (replicate 64 0) 0 bytes
 
--- from an opening on
-abbrev pub opened-record : Direction → ℕ → List ℕ → ℕ → Transfer
-opened-record d row held len = record { held = held; row = row; direction = d; len = len; place = 0; toggle = false }
+-- from an opening on, of which so many bytes went with it
+abbrev pub opened-record : Direction → ℕ → List ℕ → ℕ → ℕ → Transfer
+opened-record d row held len place = record { held = held; row = row; direction = d; len = len; place = place; toggle = false }
 
 -- after a part of a read that was not the last, of some size
 abbrev pub turned : Transfer → ℕ → Transfer

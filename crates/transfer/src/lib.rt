@@ -96,16 +96,22 @@ pub fn writing(t: Transfer) -> bool
     }
 }
 
-// An opening starts with no byte given or sent, and toggle 0.
-pub fn opened(direction: Direction, row: usize, held: [u8; 64], len: usize) -> Transfer
-    ensures { λ r. ⌜ r ≡ opened-record direction row held len ⌝ }
+// An opening starts with the bytes that it carries itself, and toggle 0.
+pub fn opened(
+    direction: Direction,
+    row: usize,
+    held: [u8; 64],
+    len: usize,
+    place: usize,
+) -> Transfer
+    ensures { λ r. ⌜ r ≡ opened-record direction row held len place ⌝ }
 {
     Transfer {
         held,
         row,
         direction,
         len,
-        place: 0,
+        place,
         toggle: false,
     }
 }

@@ -20,3 +20,5 @@ pub const SHORT_ROOM: u32 = 2;
 pub const BAD_LINE: u32 = 3;
 pub const BAD_MEMORY: u32 = 4;
 pub const CLIENT_ABORT: u32 = 5;
+pub const BAD_MAILBOX: u32 = 6;
+pub const NOT_SDO: u32 = 7;

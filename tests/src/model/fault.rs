@@ -27,15 +27,23 @@ impl Fault for Broken {
     }
 }
 
+/// Variants with what each does. Behind a name in brackets stand those of a group, up to the next one.
 macro_rules! mutants {
-    ($($name:ident: $text:literal,)*) => {
+    ($($name:ident: $text:literal,)* $([$group:ident] $($of_group:ident: $text_of_group:literal,)*)*) => {
         #[derive(Clone, Copy, PartialEq, Eq, Debug)]
         pub enum Mutant {
             $(#[doc = $text] $name,)*
+            $($(#[doc = $text_of_group] $of_group,)*)*
         }
 
         /// Every wrong variant with what it does.
-        pub const MUTANTS: &[(Mutant, &str)] = &[$((Mutant::$name, $text),)*];
+        pub const MUTANTS: &[(Mutant, &str)] =
+            &[$((Mutant::$name, $text),)* $($((Mutant::$of_group, $text_of_group),)*)*];
+
+        $(
+            /// The wrong variants of a group.
+            pub const $group: &[Mutant] = &[$(Mutant::$of_group,)*];
+        )*
     };
 }
 
@@ -255,4 +263,80 @@ mutants! {
     RefusedCallDrops: "a call with a short room drops the transfer",
     AbortNeedsNoRoom: "the client's abort is taken with a short room",
     LineMasked: "of a line number only bit 0 counts",
+
+    [OF_THE_MAILBOX]
+    // the form of line 0
+    EightBesideMailbox: "eight bytes are taken on line 0 in the mailbox form",
+    MailboxThoughEight: "a mailbox is taken though eight bytes are chosen",
+    LineOneRefused: "line 1 is refused in the mailbox form",
+    PowerUpKeepsForm: "power-up leaves the form",
+    RefusedPowerUpWritesForm: "a power-up that is refused with 4 writes the form",
+    FormLowBit: "of the form that power-up is given only bit 0 counts",
+    FormLowByte: "of the form that power-up is given only the low byte counts",
+    FormNumberKept: "power-up keeps the number of the form, not 0 or 1",
+    LentFormMustBeOne: "a lent form byte of 2 to 255 is not the mailbox",
+    LentFormSetRight: "a mailbox sets a lent form byte to 1",
+    ResetLosesForm: "a device reset goes back to eight bytes",
+    SampleClearsForm: "a sample goes back to eight bytes",
+    // numbers of a mailbox
+    FormBeforeMemory: "the form that is not chosen is told before wrong memory",
+    MailboxBeforeForm: "a wrong mailbox is told before the form",
+    TypeBeforeMailbox: "what is no SDO request is told before a wrong mailbox",
+    RoomBeforeMailbox: "a short room is told before a wrong mailbox",
+    RoomBeforeType: "a short room is told before what is no SDO request",
+    LengthNineTaken: "a length field of 9 is taken",
+    Length123Taken: "a length field of 123 is taken",
+    LengthLowByte: "of the length field only the low byte counts",
+    ShortMailboxTaken: "a mailbox of 127 bytes is taken",
+    LongMailboxTaken: "a mailbox of 129 bytes is taken",
+    TypeUnheeded: "the mailbox's type is not looked at",
+    ServiceUnheeded: "the CoE service is not looked at",
+    ResponseTaken: "an SDO response is taken as a request",
+    ReservedBitHeeded: "a mailbox with the reserved bit of its counter set is no SDO request",
+    ChannelHeeded: "a mailbox on another channel or of another priority is no SDO request",
+    CoeNumberHeeded: "a CoE header with a number or reserved bits is no SDO request",
+    Room127Taken: "a room of 127 bytes is taken for a mailbox",
+    MailboxAbortNeedsNoRoom: "the client's abort by mailbox is taken with a short room",
+    MailboxAbortWrites: "the client's abort by mailbox writes zeros into the room",
+    RefusedMailboxDrops: "a mailbox that is refused by number drops the transfer",
+    // headers of the answer
+    CounterCut: "the answer's counter is 0",
+    ReservedBitCopied: "the reserved bit of the counter is copied",
+    CounterKept: "the counter of a mailbox is kept in a spare byte",
+    AddressCut: "the high byte of the address is lost",
+    ChannelCopied: "channel and priority are copied",
+    CoeNumberCopied: "the CoE number is copied",
+    AbortByResponse: "an abort answer has service 3",
+    AnswersByRequest: "every answer has service 2",
+    LengthWithHeader: "the answer's length field counts the mailbox header too",
+    OnlyUsedWritten: "behind the SDO of the answer the room is left as it was",
+    RequestBehindAnswer: "behind the SDO of the answer stand bytes of the request",
+    MailboxRoomFilled: "later bytes of a longer room are cleared by a mailbox",
+    // SDOs in a mailbox
+    MailboxOnLineOne: "a mailbox moves the transfer of line 1",
+    CompleteAccessRefused: "the bit of complete access is refused",
+    ReadSurplusRefused: "bytes behind the opening of a read are too many",
+    ExpeditedSurplusRefused: "bytes behind an expedited value are too many",
+    ReadOpeningLeftOpen: "an opening that carried all leaves the read open",
+    ReadOpeningBare: "the answer to the opening of a read carries nothing of a longer value",
+    ReadPartsOfSeven: "parts of a read carry seven bytes at most",
+    UnusedBitsWrapped: "a part of a read with more than seven bytes has bits for unused ones",
+    ShortPartNotFilled: "a part of a read with less than seven bytes is not filled up",
+    SurplusIgnored: "of an opening that brings more than it announces the surplus is dropped",
+    SurplusFirst: "a surplus is told before the announced length",
+    UnsizedSurplusCut: "of an opening without a size what is more than the entry's length is dropped",
+    WholeLengthUnjudged: "an announced length is not judged where the entry's length came",
+    WholeOpeningWaits: "an opening that brings all waits for a last part",
+    UnsizedOpeningEnds: "an opening without a size that brings the entry's length ends the write",
+    WholeUnlocked: "the lock does not refuse a write that its opening ends",
+    WholeUncrossed: "a write that its opening ends is not judged for a crossed trip point",
+    WholeResetForgotten: "a device reset by one mailbox is not done",
+    BytesBehindTaken: "an opening brings 112 bytes, whatever its length field",
+    PartBytesBehindTaken: "a part brings 119 bytes, whatever its length field",
+    CarriedForgotten: "bytes that an opening carries are lost if parts follow",
+    OpeningTurnsToggle: "an opening that carries bytes turns the toggle",
+    PartOneShort: "a longer part of a write brings a byte less",
+    WritePartsOfSeven: "a part of a write brings seven bytes at most",
+    UnusedBitsInLongPart: "bits for unused bytes count in a part of more than seven",
+    EmptyPartFull: "a part with seven unused bytes brings seven",
 }

@@ -1,7 +1,7 @@
 -- `board::serve`: each return is one law, given what the calls ensure. Assumes nothing.
 use mathlib.Core.Path.{sym, _∙_}
-use borrow.Author.Needs.{needs}
 use Rattle.board.proofs.CallLaws.{abort-served, answer-served}
+use borrow.Author.Needs.{needs}
 use Rattle.board.proofs.serve.Statement.{statement}
 use Rattle.board.proofs.serve.Tie as tie
 
@@ -24,7 +24,7 @@ speak-requires : tie.Need-speak-requires
 speak-requires c κs =
     let s = c .before .before .before .before .before .before .before .before .before .before .before .before .before .before in
     let l = s .pre .1 in
-    (record { values-long = l .values-long; block-long = l .block-long; state-long = l .state-long; place = c .before .before .before .before .before .before .before .before .place-of .ensures .1; room = l .room }, l .message-long, sym (c .before .before .before .before .before .before .before .heard-of .ensures) ∙ c .before .before .before .before .before .heard .given .1)
+    (record { values-long = l .values-long; block-long = l .block-long; state-long = l .state-long; place = c .before .before .before .before .before .before .before .before .place-of .ensures .1; room = s .pre .3 }, s .pre .2, sym (c .before .before .before .before .before .before .before .heard-of .ensures) ∙ c .before .before .before .before .before .heard .given .1)
 
 same-length : tie.Need-same-length
 same-length c = search needs
@@ -52,4 +52,19 @@ returns-2 c =
     answer-served (s .args .line) (s .args .message .now) (s .args .values .now) (s .args .block .now) (s .args .state .now) (s .args .answer .now) (c .before .before .before .before .before .before .before .before .before .before .before .before .before .before .before .before .before .place-of .ensures .0) (c .before .before .before .before .before .before .before .before .before .before .before .before .before .before .heard .given .0 .0) (sym (c .before .before .before .before .before .before .before .before .before .before .before .before .before .before .before .before .heard-of .ensures) ∙ c .before .before .before .before .before .before .before .before .before .before .before .before .before .before .heard .given .1) (c .before .before .before .before .before .before .before .before .speak .ensures)
 
 pub serve-spec : {M : Type 1} → statement M
-serve-spec = tie.close (tie.spec place-of-requires heard-of-requires enum-told clear-record-requires enum-known-heard speak-requires same-length returns same-length-2 same-length-3 same-length-4 same-length-5 returns-2)
+serve-spec =
+    tie.close
+    (tie.spec
+    place-of-requires
+    heard-of-requires
+    enum-told
+    clear-record-requires
+    enum-known-heard
+    speak-requires
+    same-length
+    returns
+    same-length-2
+    same-length-3
+    same-length-4
+    same-length-5
+    returns-2)

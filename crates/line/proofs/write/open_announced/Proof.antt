@@ -1,4 +1,5 @@
 -- `line::write::open_announced`: each return is one law, given what the calls ensure. Assumes nothing.
+use mathlib.Core.List.{[]}
 use native.Mathlib.Omega.{arith}
 use Rattle.line.proofs.Writing.{within, announced-refused, announced-right}
 use borrow.Author.Needs.{needs}
@@ -11,7 +12,7 @@ returns c =
     let p = s .args .at in
     let o = s .args .state .now in
     let a = s .args .room .now in
-    announced-right p o a (s .args .k) (s .args .row) (s .args .low) (s .args .high) (s .args .n) (c .before .before .before .before .before .before .before .before .length-fits .ensures) (c .before .before .before .before .before .before .before .if1 .taken) (c .before .before .before .before .open-parts .ensures)
+    announced-right p o a (s .args .k) (s .args .row) [] (s .args .low) (s .args .high) (s .args .n) (c .before .before .before .before .before .before .before .before .length-fits .ensures) (c .before .before .before .before .before .before .before .if1 .taken) (c .before .before .before .before .open-parts .ensures)
 
 returns-2 : tie.Need-returns-2
 returns-2 c =
@@ -19,7 +20,7 @@ returns-2 c =
     let p = s .args .at in
     let o = s .args .state .now in
     let a = s .args .room .now in
-    announced-refused p o a (s .args .k) (s .args .row) (s .args .low) (s .args .high) (s .args .n) (c .before .before .before .before .before .before .before .before .length-fits .ensures) (c .before .before .before .before .before .before .before .if1 .left) (c .before .before .before .before .misfit .ensures)
+    announced-refused p o a (s .args .k) (s .args .row) [] (s .args .low) (s .args .high) (s .args .n) (c .before .before .before .before .before .before .before .before .length-fits .ensures) (c .before .before .before .before .before .before .before .if1 .left) (c .before .before .before .before .misfit .ensures)
 
 length-fits-requires : tie.Need-length-fits-requires
 length-fits-requires c κs = search needs

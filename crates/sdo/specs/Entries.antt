@@ -1,13 +1,12 @@
--- RULE: TWO LINES OF EIGHT BYTES over a gauge that is given by its entries.
+-- RULE: A GAUGE THAT IS GIVEN BY ITS ENTRIES, each named by index and subindex.
 use Prim.Native.Nat.{ℕ, _<_}
 use mathlib.Core.Path.{_≡_}
 use mathlib.Core.List.{List}
 use lib.ListN.{length}
-use Rattle.order.specs.Talk.{Read, value, denied, Sizes, closed, Outcome, declined, idle}
+use Rattle.order.specs.Talk.{Read, value, denied, Sizes, closed, Outcome, declined}
 use Rattle.order.specs.Gauge.{Gauge}
-use Rattle.order.specs.Serve.{Setup, by-line}
 use Rattle.sdo.specs.declared.Key.{Key}
-use Rattle.sdo.specs.Eight.{Code, eight-bytes}
+use Rattle.sdo.specs.Eight.{Code}
 
 -- the gauge by its entries, an entry being named by index and subindex
 pub record Entries : Type 1 where
@@ -27,13 +26,3 @@ pub record Sound (E : Entries) : Type 0 where
   pub read-code : (g : E .Store) (k : Key) (c : ℕ) → E .read-whole g k ≡ denied c → Code c
   pub row-code : (k : Key) (c : ℕ) → E .write-sizes k ≡ closed c → Code c
   pub commit-code : (g : E .Store) (k : Key) (bytes : List ℕ) (c : ℕ) → E .commit g k bytes ≡ declined c → Code c
-
--- R6.1
-pub data Line : Type 0 where
-  tool : Line
-  service : Line
-  deriving Discrete as Line-same
-
--- both lines speak in eight bytes
-abbrev pub two-lines : Entries → Setup
-two-lines E = record { gauge = gauge E; wires = by-line Line-same idle; speech = λ l. eight-bytes }

@@ -1,0 +1,4 @@
+pub mod Brief
+pub mod Opening
+pub mod Asked
+pub mod Sending

@@ -1,0 +1,4 @@
+pub mod MailLaws
+pub mod MailTrip
+pub mod SealLaws
+pub mod LineLaws

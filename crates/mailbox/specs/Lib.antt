@@ -1,0 +1,3 @@
+pub mod Mail
+pub mod Sealing
+pub mod Lines
