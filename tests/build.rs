@@ -1,4 +1,4 @@
-//! Finds the board's static library. It is x86-64 code, written by `rt staticlib board` to target/staticlib; on another machine the
+//! Finds the board's static library. It is x86-64 code, written by `tools/staticlib` to target/staticlib; on another machine the
 //! calls are handed on to an emulated process (`tools/x86.py bridge`, to target/bridge). BOARD_LIB_DIR names another folder.
 
 use std::path::{Path, PathBuf};
@@ -24,7 +24,7 @@ fn main() {
     let library = folder.join("libboard.a");
     println!("cargo:rerun-if-changed={}", library.display());
     println!("cargo:rerun-if-changed={}", written.display());
-    let make = if bridged { "`rt staticlib board`, then `tools/x86.py bridge`" } else { "`rt staticlib board`" };
+    let make = if bridged { "`tools/staticlib`, then `tools/x86.py bridge`" } else { "`tools/staticlib`" };
     if !library.exists() {
         panic!(
             "\n\n{} is missing.\nMake it with {make}, name its folder in BOARD_LIB_DIR,\n\

@@ -1,129 +1,136 @@
 #!/usr/bin/env python3
-"""Arrays that the code keeps where a trip card or a saved block goes by.
+"""What the code keeps in memory where a trip card or a saved block goes by.
 
-    tools/arrays.py          the arrays of each crate; exits 1 if one is none of those that are meant
+    tools/arrays.py          what each crate keeps; exits 1 if something is none of those that are meant
     tools/arrays.py ROOT     the same of the sources in another folder
 
-Card and block are worked on as packed bytes: no array has an element for each bit (R16.9). In a crate that has a card or a block in its
-hands an array's length and the width of its elements say what an element is, and only what is listed here is meant. The arrays are those
-of the MIR, so parameters, results, unnamed values and fields of structs count too; what is lent counts where it is kept.
+Card and block are worked on as packed bytes: no array has an element for each bit (R16.9). What a function keeps is what it has room for
+in the LLVM module before anything is optimised, so parameters, results, unnamed values and fields of structs count too; what is lent
+counts where it is kept. Arrays and structs are bytes there, at places that are multiples of their widest number's width. So of what has
+two bytes or more, in a crate that has a card or a block in its hands, only what is listed here is meant, and what is lent: a slice is two
+words. An enum without values is one byte.
 """
+import glob
 import os
 import re
 import sys
+import tempfile
 
 sys.dont_write_bytecode = True
 import lowered
 import x86
 
-
 # the crates that have neither in their hands
 ELSEWHERE = ("find", "entry", "trip", "sample", "gate", "command", "sdo", "dialogue")
+LEAST, SLICE = 2, (16, 8)
+# all that the library does
+CALLS = """fn main() {
+    let mut values = [0; board::VALUES_SIZE];
+    let mut block = [0; board::BLOCK_SIZE];
+    let mut state = [0; board::STATE_SIZE];
+    let mut room = [0; 128];
+    let said = [0; 128];
+    board::gauge_power_up(board::FORM_EIGHT, &mut values, &block, &mut state);
+    board::gauge_message(0, &said, &mut values, &mut block, &mut state, &mut room);
+    board::gauge_mailbox(&said, &mut values, &mut block, &mut state, &mut room);
+    board::gauge_sample(0.0, 1, 0, 0, &mut values, &mut state);
+    board::gauge_image(&values, &mut room);
+}
+"""
+
+
+def text_of(path):
+    with open(path, encoding="utf-8") as file:
+        return file.read()
 
 
 def constant(root, file, name):
-    with open(os.path.join(root, "crates", file), encoding="utf-8") as text:
-        return int(re.search(rf"^pub const {name}: usize = (\d+);$", text.read(), re.M).group(1))
+    return int(re.search(rf"^pub const {name}: usize = (\d+);$", text_of(os.path.join(root, "crates", file)), re.M).group(1))
 
 
 def meant(root):
-    """What an element is, by crate, width in bits and length; a crate with none has no array."""
+    """What is kept, by crate: how many bytes at multiples of what, and what they are."""
     rows = constant(root, "find/src/columns.rt", "NV_ROWS")
     end = constant(root, "find/src/columns.rt", "NV_END")
     record = constant(root, "state/src/lib.rt", "RECORD")
-    field = {(32, 6): "a field of a trip point"}
-    value = {(8, 64): "a byte of a transfer's value"}
-    answer = {(8, 8): "a byte of an answer"}
-    entry = {(width, rows): "an NV entry" for width in (8, 16, 32)} | {(16, rows + 1): "an NV entry's first bit, and the end"}
+    fields = {(24, 4): "the fields of a trip point"}
+    value = {(64, 1): "a transfer's value"}
+    key = {(4, 2): "a key"}
+    trips = {(4, 1): "all trips"}
+    transfer = value | key | {(104, 8): "a transfer, with its value"}
+    answer = {(8, 1): "an answer"}
+    gate = {(24, 8): "the row that a key leads to"}
+    ending = {(8, 4): "how a write ends"}
+    said = {(24, 8): "what a message says"}
+    reader = {(24, 8): "what is left of a datagram"}
+    head = {(8, 2): "a mailbox's head"}
+    mail = {(10, 2): "what a mailbox is"}
     return {
         "wire": {},
         "bits": {},
-        "limits": {},
+        "limits": {(8, 4): "two limits"},
         "crossed": {},
-        "card": field | value,
-        "enter": field,
+        "card": fields | value,
+        "enter": fields,
         "block": {},
-        "load": entry,
-        "store": entry | {(8, (end + 7) // 8 + 8): "a byte of the block"},
-        "gauge": value,
-        "transfer": value,
-        "state": value | {(8, record): "a byte of a record"},
-        "line": value | answer,
-        "reader": {},
-        "mailbox": {},
-        "outbox": value | answer,
-        "inbox": value | answer,
-        "post": answer,
-        "board": {},
+        "load": {(4 * rows, 4): "a number for each NV entry"},
+        "store": {((end + 7) // 8 + 8, 1): "the bytes of a block"},
+        "gauge": value | ending,
+        "transfer": transfer,
+        "state": transfer | trips | {(2, 1): "a point's trips", (record, 1): "the bytes of a record"},
+        "line": transfer | answer | gate | ending,
+        "reader": reader,
+        "mailbox": head | mail | reader,
+        "outbox": transfer | answer | gate,
+        "inbox": transfer | answer | gate | ending,
+        "post": answer | said | head | key,
+        "board": said | head | mail | trips | {(32, 8): "what is heard"},
     }
 
 
-def parsed(term):
-    """A term as nested lists, without recursion: lists are chains of lcons as long as a program."""
-    stack = [[]]
-    for word in re.findall(r'\(|\)|"[^"]*"|[^\s()"]+', term):
-        if word == "(":
-            stack.append([])
-        elif word == ")":
-            done = stack.pop()
-            stack[-1].append(done)
-        else:
-            stack[-1].append(word)
-    return stack[0]
-
-
-def chain(term):
-    """The elements of a chain of lcons."""
-    found = []
-    while isinstance(term, list) and term[0] == "lcons":
-        found.append(term[1])
-        term = term[2]
-    return found
-
-
-def arrays_in(kind, types):
-    """(width of an element, length) of each array in a type, by the types that the code declares; a reference keeps none, and an element
-    that is no number has width 0."""
-    if not isinstance(kind, list) or kind[0] == "tyRef":
-        return
-    if kind[0] == "tyNamed":
-        yield from arrays_in(types[kind[1][1]], types)
-        return
-    if kind[0] == "tyArray":
-        yield (int(kind[1][1]) if kind[1][0] == "tyInt" else 0), int(kind[2][1])
-    for part in kind[1:]:
-        yield from arrays_in(part, types)
-
-
 def kept(root):
-    """(function, its arrays) for each function of the libraries."""
-    _, functions, _ = parsed(lowered.mir(root))
-    for _, name, item, *declared in chain(functions):
-        types = {pair[1]: pair[2] for pair in chain(declared[0] if declared else "lnil")}
-        yield name.strip('"'), {array for local in chain(item[4]) for array in arrays_in(local[1], types)}
+    """(function, bytes, what their places are multiples of) for each local of each function of the library."""
+    with tempfile.TemporaryDirectory() as folder:
+        main = os.path.join(folder, "main.rt")
+        with open(main, "w", encoding="utf-8") as file:
+            file.write(CALLS)
+        text, _ = lowered.lowered(root, "calls", main, ["core"])
+    inside = ""
+    for line in text.split("\n"):
+        begun = re.match(r'define [^@]*@"?([\w:]+)', line)
+        if begun:
+            inside = begun.group(1)
+            yield inside, 0, 1
+        local = re.search(r" = alloca (?:\[(\d+) x i8\]|i\d+|float|double|ptr), align (\d+)$", line)
+        if local:
+            yield inside, int(local.group(1) or 0), int(local.group(2))
+        elif re.search(r"\balloca\b|\[\d+ x |<\d+ x ", line) and not line.startswith("@"):
+            sys.exit(f"{inside} keeps something that is no number and no bytes: {line.strip()}")
+
+
+def has_code(root, crate):
+    """Has the library any function?"""
+    files = glob.glob(os.path.join(root, "crates", crate, "src", "**", "*.rt"), recursive=True)
+    return not any(file.endswith("main.rt") for file in files) and any(re.search(r"^ *(?:pub )?fn ", text_of(file), re.M) for file in files)
 
 
 def faults(root):
-    """Prints the arrays of each crate; gives those that are not meant, and crates of which this page says nothing."""
-    allowed = meant(root)
-    found = {}
-    for function, arrays in kept(root):
-        crate = function.split("::")[0]
-        if crate not in ELSEWHERE and os.path.exists(os.path.join(root, "crates", crate)):
-            found.setdefault(crate, set()).update((width, length, function) for width, length in arrays)
-    for crate in found:
-        if crate not in allowed:
+    """Prints what each crate keeps; gives what is not meant, and crates of which this page says nothing."""
+    allowed, found = meant(root), {}
+    for function, size, places in kept(root):
+        found.setdefault(function.split("::")[0], set()).update([(size, places, function)] if size >= LEAST and (size, places) != SLICE else [])
+    for crate in lowered.crates(root):
+        if crate not in allowed and crate not in ELSEWHERE and has_code(root, crate):
             yield f"crate {crate} is not listed: has it a card or a block in its hands?"
     for crate, kinds in allowed.items():
         if crate not in found:
             yield f"crate {crate} has no function"
             continue
-        seen = {(width, length) for width, length, _ in found[crate]}
-        print(f"{crate}: " + ("; ".join(f"{n} x {width} bits, {what}" for (width, n), what in kinds.items() if (width, n) in seen) or "none"))
-        for width, length, function in sorted(found[crate]):
-            if (width, length) not in kinds:
-                element = f"of {width} bits" if width else "that are no numbers"
-                yield f"{function} keeps an array of {length} elements {element}, and none such is meant in crate {crate}"
+        seen = {(size, places) for size, places, _ in found[crate]}
+        print(f"{crate}: " + ("; ".join(f"{kind[0]} bytes, {what}" for kind, what in kinds.items() if kind in seen) or "none"))
+        for size, places, function in sorted(found[crate]):
+            if (size, places) not in kinds:
+                yield f"{function} keeps {size} bytes at multiples of {places}, and none such are meant in crate {crate}"
 
 
 def main():

@@ -24,7 +24,9 @@ def read(name):
 
 
 def files(*patterns):
-    return sorted(os.path.relpath(path, TOP) for pattern in patterns for path in glob.glob(os.path.join(TOP, pattern), recursive=True))
+    """The files of these names, without what the check left in a crate's out/."""
+    found = (os.path.relpath(path, TOP) for pattern in patterns for path in glob.glob(os.path.join(TOP, pattern), recursive=True))
+    return sorted(name for name in found if not re.match(r"crates/\w+/out/", name))
 
 
 SPECS = [name for name in files("crates/*/specs/*.antt") if not name.endswith("/Lib.antt")]
@@ -136,18 +138,21 @@ def blocks_of(name):
 
 def imported(text, names, aliases):
     """One line of `use`: names of this repository's specs, and of types that the code declares."""
-    whole = re.match(r"use Rattle·(\w+)(?:·specs)?\.specs\.(\w+) as (\S+)$", text)
+    crate = re.match(r"use Rattle\.(\w+)\.", text)
+    if not crate or crate.group(1) not in crate_order():
+        return
+    whole = re.match(r"use Rattle\.(\w+)\.specs\.(\w+) as (\S+)$", text)
     if whole:
         aliases[whole.group(3)] = "crates/%s/specs/%s.antt" % whole.group(1, 2)
         return
-    some = re.match(r"use Rattle·(\w+)(?:·specs)?\.specs\.([\w.-]+)\.\{(.*)\}$", text)
+    some = re.match(r"use Rattle\.(\w+)\.specs\.([\w.]+)\.\{(.*)\}$", text)
     if not some:
         return
     crate, path, listed = some.groups()
     for item in listed.split(", "):
         name, _, alias = item.partition(" as ")
         if path.startswith("declared."):
-            kind = [part for part in path.split(".")[1:] if part != "the-variants"][-1]
+            kind = [part for part in path.split(".")[1:] if part != "TheVariants"][-1]
             names[alias or name] = ("crates/%s/src" % crate, kind)
         else:
             names[alias or name] = ("crates/%s/specs/%s.antt" % (crate, path), name)
@@ -170,10 +175,13 @@ class Definitions:
         """What a definition names: (file, name) of each."""
         _, names, aliases = self.parsed[file]
         for token in re.findall(r"[^\s(){};,\[\]]+", " ".join(self.parsed[file][0][block].lines)):
+            first = token.split(".")[0]
             if token in names:
                 yield names[token]
-            elif "." in token and token.split(".")[0] in aliases:
-                yield aliases[token.split(".")[0]], token.split(".")[1]
+            elif "." in token and first in aliases:
+                yield aliases[first], token.split(".")[1]
+            elif first in names:
+                yield names[first]
 
     def home(self, file, name):
         """Where a name is defined: a constructor belongs to its data type."""
@@ -199,25 +207,25 @@ class Definitions:
         return len(self.parsed[at[0]][0][at[1]].lines) if at[0].endswith(".antt") else declared_lines(*at)
 
 
-CALLS = [("crates/board/specs/Calls.antt", name) for name in ("message-call", "mailbox-call", "power-up-call", "sample-call", "image-call")]
+CALLS = [("crates/board/specs/Calls.antt", name) for name in ("message_call", "mailbox_call", "power_up_call", "sample_call", "image_call")]
 FIRMWARE = "crates/demand3/specs/Firmware.antt"
 # the questions of a reader: what is stated, and what the statement is about whatever it says, so that it need not be believed for it
 ASKED = [
     ("Calls", CALLS, []),
     ("Demand 3", [(FIRMWARE, "Demand3Calls")], CALLS),
     ("Count of parts", [(FIRMWARE, "ReadOpened"), (FIRMWARE, "ExactParts")], CALLS),
-    ("Table", [("crates/table/specs/Rule.antt", "table-ok"), ("crates/table/specs/Rows.antt", "rows")], []),
-    ("Search", [("crates/table/specs/Halve.antt", name) for name in ("look-count", "told")] + [("crates/table/specs/Find.antt", "find-row")], []),
-    ("Summary", [("crates/gauge/specs/Masks.antt", "Summed"), (FIRMWARE, "final"), (FIRMWARE, "power-on")], CALLS),
-    ("Trip points", [("crates/crossed/specs/Crossed.antt", "straight"), (FIRMWARE, "final"), (FIRMWARE, "power-on")], CALLS),
+    ("Table", [("crates/table/specs/Rule.antt", "table_ok"), ("crates/table/specs/Rows.antt", "rows")], []),
+    ("Search", [("crates/table/specs/Halve.antt", name) for name in ("look_count", "told")] + [("crates/table/specs/Find.antt", "find_row")], []),
+    ("Summary", [("crates/gauge/specs/Masks.antt", "Summed"), (FIRMWARE, "final"), (FIRMWARE, "power_on")], CALLS),
+    ("Trip points", [("crates/crossed/specs/Crossed.antt", "straight"), (FIRMWARE, "final"), (FIRMWARE, "power_on")], CALLS),
     ("`talk`", [
         ("crates/dialogue/specs/Text.antt", "spoken"), ("crates/dialogue/specs/Lines.antt", "lines"),
-        ("crates/talk/specs/Turns.antt", "taken"), ("crates/talk/specs/Run.antt", "after-lines")], CALLS),
+        ("crates/talk/specs/Turns.antt", "taken"), ("crates/talk/specs/Run.antt", "after_lines")], CALLS),
     ("Boards", [
         ("crates/demand3/specs/%s.antt" % file, name) for file, names in (
-            ("Promised", "Meets Mailbox-promised Power-up-promised Sample-promised Image-promised"), ("Refused", "Aborts Sends Forgets Fakes"),
-            ("Conversation", "gives expected"), ("Examples", "cases"), ("CoatingShop", "story"), ("Fab", "asked-in expected-in fab"),
-            ("Relay", "relay"), ("Mailboxes", "given-in expected-of boxed-cases")) for name in names.split()], CALLS),
+            ("Promised", "Meets MailboxPromised PowerUpPromised SamplePromised ImagePromised"), ("Refused", "Aborts Sends Forgets Fakes"),
+            ("Conversation", "gives expected"), ("Examples", "cases"), ("CoatingShop", "story"), ("Fab", "asked_in expected_in fab"),
+            ("Relay", "relay"), ("Mailboxes", "given_in expected_of boxed_cases")) for name in names.split()], CALLS),
 ]
 
 
@@ -236,7 +244,7 @@ def believed():
 
 
 def crate_order():
-    return [line.split(":")[0] for line in read("crates.txt").split("\n") if re.match(r"\w+:", line)]
+    return re.findall(r"^(\w+)[^#:\n]*:", read("crates.txt"), re.M)
 
 
 def believed_table(counts):

@@ -3,11 +3,11 @@
 
     tools/laws.py
 
-A `pub` name of crates/*/specs or crates/*/proofs is cited where another definition of its file, or a file that imports it, has it; a
-theorem that stands for itself is listed by name, between backticks, in docs/PROMISES.md or docs/THEOREM.md. What is neither is dead.
-So is a law without `pub` that its file does not use, a function or a constant of crates/*/src that no code uses, and an imported name
-that its file does not have. A name listed among the theorems of docs/PROMISES.md that no file defines is an error too. One line each:
-crate, file, name; exits 1 if there is any.
+A `pub` name of crates/*/specs or crates/*/proofs is cited where another definition of its file, or a file that imports it, has it; the
+answer to a goal has the goal's name, and the check cites it; a theorem that stands for itself is listed by name, between backticks, in
+docs/PROMISES.md or docs/THEOREM.md. What is none of these is dead. So is a law without `pub` that its file does not use, a function or a
+constant of crates/*/src that no code uses, and an imported name that its file does not have. A name listed among the theorems of
+docs/PROMISES.md that no file defines is an error too. One line each: crate, file, name; exits 1 if there is any.
 """
 import pathlib
 import re
@@ -19,6 +19,7 @@ THEOREMS = "## Theorems over the definitions"
 NAME = r"[^\s(){}\[\],;.:]+"
 DEFINED = re.compile(rf"^ *((?:(?:unfoldable|abbrev|opaque) )*)(pub )?(data |record )?({NAME})(?= )")
 IMPORT = re.compile(r"^(?:ghost )?(?:pub )?use ([^{;\s]+?)(?:\.\{([^}]*)\})?(?: as (\S+?))?;?$")
+ANSWER = re.compile(rf"^(?:abbrev )?pub ({NAME}) : \w+\.\1$")
 ITEM = re.compile(r"^ *(?:pub )?(?:const|fn) (\w+)")
 KEYWORDS = {"use", "mod", "pub", "module", "where", "unfolding", "let", "instance", "infixl", "infixr", "infix"}
 
@@ -98,8 +99,8 @@ class File:
     def used(self, name, own):
         """Whether the file has the name, or on one line each part of an operator, outside of imports and of some lines of its own."""
         found = set(self.lines_of.get(name, ()))
-        parts = [self.lines_of.get(part, set()) for part in name.split("_") if part]
-        if "_" in name and parts:
+        parts = [self.lines_of.get(part, set()) for part in name.split("◌") if part]
+        if "◌" in name and parts:
             found |= set.intersection(*parts)
         return any(at not in own for at in found)
 
@@ -107,7 +108,7 @@ class File:
 def module_of(file):
     """The path by which a module names this file."""
     inside = file.path.relative_to(ROOT / "crates" / file.crate).with_suffix("")
-    return ".".join(["Rattle·" + file.crate, *inside.parts])
+    return ".".join(["Rattle", file.crate, *inside.parts])
 
 
 def importers(files):
@@ -115,8 +116,7 @@ def importers(files):
     found = {}
     for file in files:
         for _, module, there, here in file.imports:
-            path = module.replace("·specs.specs", ".specs").replace("·proofs.proofs", ".proofs")
-            found.setdefault(path, []).append((file, there, here))
+            found.setdefault(module, []).append((file, there, here))
     return found
 
 
@@ -141,7 +141,8 @@ def dead_laws(files, listed):
             continue
         for d in file.definitions:
             own = range(d.first, d.last + 1)
-            if d.public and not d.name.endswith("-spec") and d.name not in listed and not cited(file, d.name, own, importing):
+            by_check = d.name.endswith("_spec") or ANSWER.match(file.lines[d.first])
+            if d.public and not by_check and d.name not in listed and not cited(file, d.name, own, importing):
                 yield file, d.first, f"{d.name}: cited nowhere and listed in none of {', '.join(LISTS)}"
             if not d.public and not file.used(d.name, own):
                 yield file, d.first, f"{d.name}: not used in its file"

@@ -5,8 +5,8 @@
     tools/stack.py ROOT         the same of the sources in another folder
 
 In the library the compiler puts the card's functions into those that call them, so they have no frames of their own. Here the same
-sources are compiled by the same compiler with the same words, but what one layer calls of another is kept apart. `bench/run` shows how
-much each layer takes in the calls that have to do with the card.
+sources, those of the program talk, are compiled by the same compiler with the same words, but what one layer calls of another is kept
+apart. `bench/run` shows how much each layer takes in the calls that have to do with the card.
 """
 import os
 import re
@@ -23,6 +23,7 @@ LAYERS = {"card": "card", "enter": "card", "find": "search", "gate": "search", "
           "block": "block", "load": "block", "store": "block"}
 # these belong to the layer that calls them
 HELPERS = ("wire", "bits", "limits", "crossed", "table")
+PROGRAM = "talk"
 CALL = "board::gauge_message"
 
 
@@ -46,8 +47,11 @@ def doors(text):
 
 def apart(root):
     """Compiles the program with its layers apart: the object, and the bytes of each function's frame."""
+    own = lowered.crates(root)
+    of_kit = ["core", "std", *(use for use in own[PROGRAM] if use not in own)]
+    text, words = lowered.lowered(root, PROGRAM, os.path.join(root, "crates", PROGRAM, "src", "main.rt"), of_kit)
     folder = os.path.join(x86.TOP, "target", "stack")
-    text, words = lowered.module(root, folder)
+    os.makedirs(folder, exist_ok=True)
     kept = doors(text)
     # without the red zone, since what stands there is no part of a frame
     marks = lambda m: m[1] + ("noinline " if m[2] in kept else "") + "noredzone {"
@@ -61,9 +65,10 @@ def apart(root):
     with open(path("apart.su")) as file:
         for line in file:
             name, size, kind = line.rstrip().split("\t")
+            name = name.split(":", 1)[1]
             if kind != "static":
                 sys.exit(f"{name}: its frame has no fixed size")
-            frames[name.split(":", 1)[1]] = int(size)
+            frames[name] = int(size)
     return path("apart.o"), frames
 
 
@@ -171,7 +176,7 @@ def taken(program, entries, messages, answer):
 def calls(code):
     """name of a call -> its bytes of stack by layer, in the object of a program with its layers apart."""
     program = code[:-len(".o")]
-    x86.run(["gcc", "-no-pie", "-Wl,-z,now", code, "-o", program])
+    x86.run(["gcc", "-no-pie", "-Wl,-z,now", code, *x86.c_parts(), "-o", program])
     entries = {}
     for line in x86.run(["nm", program], stdout=subprocess.PIPE).stdout.splitlines():
         words = line.split(None, 2)

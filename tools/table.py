@@ -21,6 +21,7 @@ import itertools
 import os
 import re
 import sys
+import textwrap
 
 TOP = os.path.dirname(os.path.dirname(os.path.abspath(__file__)))
 PAGE = "docs/object-table.md"
@@ -40,36 +41,36 @@ CELLS = {
 
 # entries whose places the code knows by name
 PLACES = [
-    ("lock", 0x2003, 0x00), ("input-value", 0x6000, 0x11), ("reading-valid", 0x6005, 0x01), ("overrange", 0x6005, 0x02),
-    ("underrange", 0x6005, 0x03), ("status-1", 0x600E, 0x01), ("status-2", 0x600F, 0x01), ("settings-1", 0x800E, 0x01),
-    ("settings-2", 0x800F, 0x01), ("sensor-error", 0x9005, 0x02), ("trip-input-1", 0x900E, 0x01),
-    ("trip-input-2", 0x900F, 0x01), ("summary-byte", 0xF380, 0x00), ("active-word", 0xF383, 0x01),
-    ("latched-status", 0xF390, 0x00), ("latched-word", 0xF393, 0x01), ("masks", 0xF3A1, 0x01), ("error-mask", 0xF3A3, 0x01),
-    ("trip-outputs", 0xF641, 0x01), ("power-on-time", 0xF9F6, 0x00), ("reset-status", 0xFBF0, 0x02),
-    ("exception-status", 0xFBF1, 0x02), ("store-status", 0xFBF2, 0x02), ("load-status", 0xFBF4, 0x02)]
+    ("lock", 0x2003, 0x00), ("input_value", 0x6000, 0x11), ("reading_valid", 0x6005, 0x01), ("overrange", 0x6005, 0x02),
+    ("underrange", 0x6005, 0x03), ("status_1", 0x600E, 0x01), ("status_2", 0x600F, 0x01), ("settings_1", 0x800E, 0x01),
+    ("settings_2", 0x800F, 0x01), ("sensor_error", 0x9005, 0x02), ("trip_input_1", 0x900E, 0x01),
+    ("trip_input_2", 0x900F, 0x01), ("summary_byte", 0xF380, 0x00), ("active_word", 0xF383, 0x01),
+    ("latched_status", 0xF390, 0x00), ("latched_word", 0xF393, 0x01), ("masks", 0xF3A1, 0x01), ("error_mask", 0xF3A3, 0x01),
+    ("trip_outputs", 0xF641, 0x01), ("power_on_time", 0xF9F6, 0x00), ("reset_status", 0xFBF0, 0x02),
+    ("exception_status", 0xFBF1, 0x02), ("store_status", 0xFBF2, 0x02), ("load_status", 0xFBF4, 0x02)]
 
 # of these, code finds the place from another: the status entries stand in a row
-NOT_READ = ["status-2"]
+NOT_READ = ["status_2"]
 
 # rows that the code knows by name
-ROWS = [("device-reset", 0xFBF0, 0x01), ("exception-reset", 0xFBF1, 0x01), ("store-parameters", 0xFBF2, 0x01), ("load-parameters", 0xFBF4, 0x01)]
+ROWS = [("device_reset", 0xFBF0, 0x01), ("exception_reset", 0xFBF1, 0x01), ("store_parameters", 0xFBF2, 0x01), ("load_parameters", 0xFBF4, 0x01)]
 
 # entries that stand one byte behind another: a trip point's low side behind its high one, a command's response behind its status
 BEHIND = [
-    ("status-1", 0x600E, 0x02), ("status-2", 0x600F, 0x02), ("reset-status", 0xFBF0, 0x03), ("exception-status", 0xFBF1, 0x03),
-    ("store-status", 0xFBF2, 0x03), ("load-status", 0xFBF4, 0x03)]
+    ("status_1", 0x600E, 0x02), ("status_2", 0x600F, 0x02), ("reset_status", 0xFBF0, 0x03), ("exception_status", 0xFBF1, 0x03),
+    ("store_status", 0xFBF2, 0x03), ("load_status", 0xFBF4, 0x03)]
 
 # entries that stand behind each other: the test of a row, what they are, the name of their size, their first and last index
 SPANS = [
-    ("latched", "what an exception reset clears", "latched-size", 0xF390, 0xF398),
-    ("is-mask", "the masks of the detail words", "masks-size", 0xF3A1, 0xF3A8),
-    ("of-point-1", "the settings of trip point 1", "settings-1-size", 0x800E, 0x800E),
-    ("of-point-2", "the settings of trip point 2", "settings-2-size", 0x800F, 0x800F)]
+    ("latched", "what an exception reset clears", "latched_size", 0xF390, 0xF398),
+    ("is_mask", "the masks of the detail words", "masks_size", 0xF3A1, 0xF3A8),
+    ("of_point_1", "the settings of trip point 1", "settings_1_size", 0x800E, 0x800E),
+    ("of_point_2", "the settings of trip point 2", "settings_2_size", 0x800F, 0x800F)]
 
 # a trip point's settings, counted from the first of them: the same in 800E and 800F
 SETTINGS = [
-    ("high-enable", 0x01), ("low-enable", 0x02), ("high-level", 0x11), ("low-level", 0x14), ("high-hysteresis", 0x17),
-    ("low-hysteresis", 0x18)]
+    ("high_enable", 0x01), ("low_enable", 0x02), ("high_level", 0x11), ("low_level", 0x14), ("high_hysteresis", 0x17),
+    ("low_hysteresis", 0x18)]
 
 # the objects of the trip points, and the settings that a crossed one is known by
 POINTS = (0x800E, 0x800F)
@@ -317,10 +318,8 @@ def accesses(rows):
 def rows_antt(rows):
     lines = ["""-- RULE: THE OBJECT TABLE (R1.1): one line for each row, in the order of docs/object-table.md, from which tools/table.py writes this file.
 -- index, subindex, type, access, NV mark, length, place, minimum, maximum, default. Assumes nothing.
-use mathlib.Core.List.{List, [], _∷_}
-use Prim.Native.Nat.{ℕ}
-use lib.ListN.{getD}
-use Rattle·table·specs.specs.Row.{Row, row, no-row, BOOL, USINT, UINT, UDINT, ULINT, REAL, STRING, CARD, COMMAND, """ + accesses(rows) + """}
+use Rattle.std.specs.Prelude.{List, [], ◌∷◌, ℕ, get_or}
+use Rattle.table.specs.Row.{Row, row, no_row, BOOL, USINT, UINT, UDINT, ULINT, REAL, STRING, CARD, COMMAND, """ + accesses(rows) + """}
 
 unfoldable pub rows : List Row
 rows =
@@ -331,23 +330,23 @@ rows =
             row["low"], row["high"], row["def"]))
     lines.append("""    []
 
-abbrev pub row-count : ℕ
-row-count = %d
+abbrev pub row_count : ℕ
+row_count = %d
 
 -- the row of 2003:00, the setup lock
-abbrev pub lock-row : ℕ
-lock-row = %d
+abbrev pub lock_row : ℕ
+lock_row = %d
 
 -- the row with a number; past the end a row of zeros
-abbrev pub at-row : ℕ → Row
-at-row r = getD rows r no-row
+abbrev pub at_row : ℕ → Row
+at_row r = get_or rows r no_row
 
 -- the rows with an NV mark, and the bit of the saved block behind their entries: both are computed in the crate block
-abbrev pub nv-count : ℕ
-nv-count = %d
+abbrev pub nv_count : ℕ
+nv_count = %d
 
-abbrev pub nv-end : ℕ
-nv-end = %d
+abbrev pub nv_end : ℕ
+nv_end = %d
 """ % (len(rows), [key(row) for row in rows].index(0x200300), len(nv_rows(rows)), block_end(rows)))
     for name, number, what in nv_settings(nv_rows(rows)):
         lines.append("\n-- %s\nabbrev pub %s : ℕ\n%s = %d\n" % (what, name, name, number))
@@ -375,18 +374,15 @@ def span_shown(low, high):
 
 def span_test(low, high):
     """Whether a row is of these indices."""
-    return "eqb (r .index) 0x%04X" % low if low == high else "both (leb 0x%04X (r .index)) (leb (r .index) 0x%04X)" % (low, high)
+    return "eqb r.index 0x%04X" % low if low == high else "both (leb 0x%04X r.index) (leb r.index 0x%04X)" % (low, high)
 
 
 def places_antt(rows):
     text = """-- RULE: the places in the values that have names. tools/table.py writes this file; that they are the table's is computed in
 -- proofs/Placed.antt, and that a row is told by such a span in the crate gauge. Assumes nothing.
-use Prim.Native.Nat.{ℕ, _+_}
-use mathlib.Core.Bool.{Bool}
-use mathlib.Core.List.{List, [], _∷_}
-use lib.Dec.{leb, eqb}
-use Rattle·table·specs.specs.Row.{Row}
-use Rattle·table·specs.specs.Walk.{both}
+use Rattle.std.specs.Prelude.{ℕ, ◌+◌, Bool, List, [], ◌∷◌, leb, eqb}
+use Rattle.table.specs.Row.{Row}
+use Rattle.table.specs.Walk.{both}
 """
     for name, number, what in places(rows):
         text += "\n-- %s\nabbrev pub %s : ℕ\n%s = %d\n" % (what, name, name, number)
@@ -401,15 +397,15 @@ pub record Placed : Type 0 where
 abbrev pub placed : ℕ → ℕ → ℕ → ℕ → Placed
 placed i s p n = record { index = i; sub = s; place = p; len = n }
 
-unfoldable pub named-places : List Placed
-named-places =
+unfoldable pub named_places : List Placed
+named_places =
 """
     length = {(row["index"], row["sub"]): row["len"] for row in rows}
     for name, index, sub in PLACES:
         text += "    placed 0x%04X 0x%02X %s %d ∷\n" % (index, sub, name, length[index, sub])
     for name, index, sub in BEHIND:
         text += "    placed 0x%04X 0x%02X (%s + 1) %d ∷\n" % (index, sub, name, length[index, sub])
-    for first, index in (("settings-1", 0x800E), ("settings-2", 0x800F)):
+    for first, index in (("settings_1", 0x800E), ("settings_2", 0x800F)):
         for name, sub in SETTINGS:
             text += "    placed 0x%04X 0x%02X (%s + %s) %d ∷\n" % (index, sub, first, name, length[index, sub])
     text += "    []\n"
@@ -427,7 +423,7 @@ def place_rt(rows):
     for name, number, what in places(rows):
         if name in NOT_READ:
             continue
-        text += "\n// %s\npub const %s: usize = %d;\n" % (what, name.replace("-", "_").upper(), number)
+        text += "\n// %s\npub const %s: usize = %d;\n" % (what, name.upper(), number)
     return text
 
 
@@ -435,7 +431,7 @@ def row_rt(rows):
     number = {(row["index"], row["sub"]): i for i, row in enumerate(rows)}
     text = "// The rows that have names. tools/table.py writes this file.\n"
     for name, index, sub in ROWS:
-        text += "\n// %04X:%02X\npub const %s: usize = %d;\n" % (index, sub, name.replace("-", "_").upper(), number[index, sub])
+        text += "\n// %04X:%02X\npub const %s: usize = %d;\n" % (index, sub, name.upper(), number[index, sub])
     return text
 
 
@@ -451,12 +447,11 @@ def pairs_antt(rows):
     listed = lambda cells: " ∷ ".join(str(cell) for cell in cells) + " ∷ []"
     text = """-- SHAPE: the limits as the code has them: few pairs of ranks, and for each row the number of its pair. tools/table.py writes this
 -- file from docs/object-table.md. Assumes nothing.
-use mathlib.Core.List.{List, [], _∷_}
-use Prim.Native.Nat.{ℕ}
+use Rattle.std.specs.Prelude.{List, [], ◌∷◌, ℕ}
 """
     for name, cells in (("pairs", numbers), ("minima", [low for low, _ in pairs]), ("maxima", [high for _, high in pairs])):
         text += "\nunfoldable pub %s : List ℕ\n%s = %s\n" % (name, name, listed(cells))
-    return text + "\nabbrev pub pair-count : ℕ\npair-count = %d\n" % len(pairs)
+    return text + "\nabbrev pub pair_count : ℕ\npair_count = %d\n" % len(pairs)
 
 
 def default_words(rows, end):
@@ -479,10 +474,10 @@ def words_antt(rows, end):
     words = default_words(rows, end)
     text = """-- The words that make the defaults out of zeros, as the code has them. tools/table.py writes this file; that they do is
 -- computed in the crate entry. Assumes nothing.
-use mathlib.Core.List.{List, [], _∷_}
+use mathlib.Core.List.{List, [], ◌∷◌}
 use Prim.Native.Nat.{ℕ}
 """
-    for name, cells in (("word-places", [p for p, _ in words]), ("words", [w for _, w in words])):
+    for name, cells in (("word_places", [p for p, _ in words]), ("words", [w for _, w in words])):
         text += "\nunfoldable pub %s : List ℕ\n%s = %s∷ []\n" % (name, name, "".join("%d ∷ " % c for c in cells)[:-2])
     return text
 
@@ -490,6 +485,14 @@ use Prim.Native.Nat.{ℕ}
 def shape(row):
     """Type, access, NV mark and length in one number."""
     return KINDS.index(row["kind"]) + 16 * ACCESS[row["access"]] + 64 * row["nv"] + 128 * row["len"]
+
+
+def laid_out(cells):
+    """An array as rt fmt lays it out."""
+    text = ", ".join(map(str, cells))
+    if len(text) <= 60:
+        return "[%s]" % text
+    return "[\n%s\n]" % textwrap.fill(text + ",", 99, initial_indent="    ", subsequent_indent="    ")
 
 
 def columns_rt(rows, end):
@@ -528,17 +531,17 @@ pub const NV_ROWS: usize = %d;
 pub const NV_END: usize = %d;
 """ % (len(rows), len(nv), block_end(rows))
     for name, number, what in nv_settings(nv):
-        text += "\n// %s\npub const %s: usize = %d;\n" % (what, name.replace("-", "_").upper(), number)
+        text += "\n// %s\npub const %s: usize = %d;\n" % (what, name.upper(), number)
     for name, kind, cells in columns:
-        text += "\npub const %s: [%s; %d] = [\n%s];\n" % (name, kind, len(cells), "".join("    %d,\n" % c for c in cells))
+        text += "\npub const %s: [%s; %d] = %s;\n" % (name, kind, len(cells), laid_out(cells))
     return text
 
 
 def nv_settings(nv):
     """(name, number, what it is) of what a crossed trip point shows by, among the NV rows."""
     one, two = ([nv.index(row) for row in fields_of(nv, index)] for index in POINTS)
-    named = [("nv-point-1", one[0], "800E:01, a number among the NV rows"), ("nv-point-2", two[0], "800F:01, a number among the NV rows")]
-    return named + [("nv-" + name, number - one[0], "800E:%02X and 800F:%02X, so many NV rows behind subindex 01" % (sub, sub))
+    named = [("nv_point_1", one[0], "800E:01, a number among the NV rows"), ("nv_point_2", two[0], "800F:01, a number among the NV rows")]
+    return named + [("nv_" + name, number - one[0], "800E:%02X and 800F:%02X, so many NV rows behind subindex 01" % (sub, sub))
                     for (name, sub), number in zip(CROSSED_BY, one)]
 
 

@@ -255,7 +255,7 @@ def whole_table(folder):
     ]:
         refused(folder, name, text, 0, reason)
     for key, name in (
-            ("2003:00", "lock"), ("FBF2:01", "store-parameters"), ("800F:17", "high-hysteresis"), ("600E:02", "the one behind status-1")):
+            ("2003:00", "lock"), ("FBF2:01", "store_parameters"), ("800F:17", "high_hysteresis"), ("600E:02", "the one behind status_1")):
         number = number_of(key)
         text = page({number: LINES[number - 1].replace(f"| {key[:4]} | {key[5:]} |", f"| {key[:4]} | {int(key[5:], 16) + 4:02X} |")})
         lay(folder, text)

@@ -1,6 +1,6 @@
 #!/usr/bin/env python3
 """The static library is x86-64 code. On an x86-64 machine tests and benchmark link it; on an Arm machine this tool builds what they
-need to reach it under the proof kit's emulator, with the kit's own compiler, linker and C library.
+need to reach it under an emulator, with the proof kit's own compiler, linker and C library.
 
     tools/x86.py bridge        target/bridge/libboard.a: the five C calls for this machine's programs, handed on to an emulated process
                                that has target/staticlib/libboard.a (see bridge/)
@@ -31,19 +31,21 @@ def is_native():
 
 
 def kit():
-    """The proof kit's folder, and what it has for this machine."""
-    home = os.environ.get("RATTLE_HOME")
-    if not home:
-        rt = shutil.which("rt")
-        if not rt:
-            sys.exit("rt is not on the path")
-        home = os.path.dirname(os.path.dirname(os.path.realpath(rt)))
-    return home, os.path.join(home, "on", platform.machine())
+    """The proof kit's folder."""
+    rt = shutil.which("rt")
+    if not rt:
+        sys.exit("rt is not on the path")
+    return os.path.dirname(os.path.dirname(os.path.realpath(rt)))
 
 
 def toolchain():
-    """The kit's compiler, linker, emulator and x86-64 C library."""
-    return os.path.join(kit()[1], "toolchain")
+    """The kit's compiler, linker and x86-64 C library."""
+    return os.path.join(kit(), "toolchain")
+
+
+def c_parts():
+    """What the kit's libraries have in C, which a program of theirs is linked with."""
+    return [os.path.join(kit(), "c", name) for name in ("libos_c.a", "liblibc_c.a")]
 
 
 def compile_c(source, out, *flags):
@@ -62,7 +64,11 @@ def link(objects, out):
 
 
 def emulator():
-    return [os.path.join(toolchain(), "bin", "qemu-x86_64")]
+    """The words that run x86-64 code on another machine; the kit has no emulator."""
+    program = shutil.which("qemu-x86_64")
+    if not program:
+        sys.exit("qemu-x86_64 is not on the path")
+    return [program]
 
 
 def rival_object(out):

@@ -1,4 +1,6 @@
 // Fields of bits on packed bytes, most significant bit first: bit k is bit 7 - k % 8 of byte k / 8.
+#![tactic(auto)]
+
 ghost use Rattle.std.specs.Prelude.{◌≡◌, ◌+◌, ◌-◌, ◌*◌, ◌/◌, ◌%◌, ◌^◌, ◌≤◌, ◌<◌, length, take, drop};
 ghost use Rattle.wire.specs.Splice.{splice};
 ghost use Rattle.bits.specs.Bits.{bits, field, msb, packed, merged};

@@ -133,7 +133,7 @@ module _ (others : List ℕ) (hb : Bytes others) (hn : length others ≡ 1024) w
       let f : front ++ ((own ++ saved others rs) ++ rest) ≡ (front ++ own) ++ (saved others rs ++ rest) =
       ap (λ (l : List ℕ). front ++ l) (append_assoc own (saved others rs) rest) ∙ sym (append_assoc front own (saved others rs ++ rest)) in
       let s : splice others r.place (part others r) ≡ others = splice-own others r.place r.len (omega (arith, k.0.sized.inside)) in
-      rw (d, b, s, f) (rows-own rs k.1 gg.1 (front ++ own) rest (at + row_width r) n)
+      rw (d, b, s) (ap (λ (l : List ℕ). load_rows l (at + row_width r) rs others) f ∙ rows-own rs k.1 gg.1 (front ++ own) rest (at + row_width r) n)
 
   rows_fine : (rs : List Row) → Keeps rs → values_good others rs ≡ true → (front rest : List ℕ) (at : ℕ) → length front ≡ at
       → rows_good (front ++ (saved others rs ++ rest)) at rs ≡ true
@@ -153,7 +153,7 @@ module _ (others : List ℕ) (hb : Bytes others) (hn : length others ≡ 1024) w
       ∙ gg.0)
       (λ h. sym (within_string r _ h)) in
       let n : length (front ++ own) ≡ at + row_width r = omega (arith, length-append front own) in
-      rw (f, w) (rw (sym (append_assoc front own tail)) (rows_fine rs k.1 gg.1 (front ++ own) rest (at + row_width r) n))
+      rw (f, w) (ap (λ (l : List ℕ). rows_good l (at + row_width r) rs) (f ∙ sym (append_assoc front own tail)) ∙ rows_fine rs k.1 gg.1 (front ++ own) rest (at + row_width r) n)
 
   module _ (model : ℕ) (rs : List Row) (k : Keeps rs) (g : values_good others rs ≡ true) where
     -- into the values that it was stored from, a block brings nothing new

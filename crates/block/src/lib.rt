@@ -1,4 +1,6 @@
 // The saved block: whether one is faulty, and the numbers of its entries.
+#![tactic(auto)]
+
 ghost use Rattle.std.specs.Prelude.{◌≡◌, true, cond, ◌+◌, ◌*◌, ◌≤◌, ◌<◌, length, drop};
 ghost use Rattle.bits.specs.Bits.{bits};
 ghost use Rattle.table.specs.Rows.{nv_count, nv_low_level};

@@ -1,4 +1,6 @@
-// THE BOARD: the calls for C firmware, on lent bytes. No call has a condition: bad input is refused by number.
+// THE BOARD: the calls for firmware, on lent bytes; C takes them from board_c. No call has a condition: bad input is refused by number.
+#![tactic(auto)]
+
 ghost use Rattle.std.specs.Prelude.{◌≡◌, ◌+◌, ◌≤◌, length};
 ghost use Rattle.order.specs.Keep.{speak};
 ghost use Rattle.sdo.specs.Eight.{eight_bytes};
@@ -108,8 +110,7 @@ fn serve(
     }
 }
 
-#[unsafe(no_mangle)]
-pub extern "C" fn gauge_message(
+pub fn gauge_message(
     line: u32,
     message: &[u8],
     values: &mut [u8],
@@ -184,8 +185,7 @@ fn open_mailbox(
     }
 }
 
-#[unsafe(no_mangle)]
-pub extern "C" fn gauge_mailbox(
+pub fn gauge_mailbox(
     mailbox: &[u8],
     values: &mut [u8],
     block: &mut [u8],
@@ -203,13 +203,7 @@ pub extern "C" fn gauge_mailbox(
     BAD_MEMORY
 }
 
-#[unsafe(no_mangle)]
-pub extern "C" fn gauge_power_up(
-    form: u32,
-    values: &mut [u8],
-    block: &[u8],
-    state: &mut [u8],
-) -> u32
+pub fn gauge_power_up(form: u32, values: &mut [u8], block: &[u8], state: &mut [u8]) -> u32
     ensures { powered result values.new state.new ≡ power_up_call form values.old block.now state.old }
 {
     if is_lent(values, block, state) {
@@ -221,8 +215,7 @@ pub extern "C" fn gauge_power_up(
     BAD_MEMORY
 }
 
-#[unsafe(no_mangle)]
-pub extern "C" fn gauge_sample(
+pub fn gauge_sample(
     pressure: f32,
     valid: u8,
     faults: u32,
@@ -244,8 +237,7 @@ pub extern "C" fn gauge_sample(
     DONE
 }
 
-#[unsafe(no_mangle)]
-pub extern "C" fn gauge_image(values: &[u8], image: &mut [u8]) -> u32
+pub fn gauge_image(values: &[u8], image: &mut [u8]) -> u32
     ensures { shown result image.new ≡ image_call values.now image.old }
 {
     if values.len() != VALUES_SIZE {

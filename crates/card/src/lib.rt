@@ -1,5 +1,7 @@
 // The trip card: a view of the trip entries in the values. The words of trip point 1 begin two bits before a whole byte, those of trip
 // point 2 on one.
+#![tactic(auto)]
+
 ghost use Rattle.std.specs.Prelude.{◌++◌, ◌≡◌, ◌+◌, ◌*◌, ◌/◌, ◌%◌, ◌≤◌, ◌<◌, length, replicate, get_or};
 ghost use Rattle.wire.specs.Splice.{splice};
 ghost use Rattle.bits.specs.Bits.{msb, bits};

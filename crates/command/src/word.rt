@@ -7,7 +7,7 @@ ghost use Rattle.command.specs.Words.{command_at, word_of, read_word, status_of,
 
 use table::{place, row};
 
-#[derive(Drop)]
+#[derive(Clone, Copy)]
 pub enum Command {
     DeviceReset,
     ExceptionReset,

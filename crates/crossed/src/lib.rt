@@ -1,4 +1,6 @@
 // A crossed trip point: both its sides are enabled, and its low level is not below its high one.
+#![tactic(auto)]
+
 ghost use Rattle.std.specs.Prelude.{true, ◌≡◌, ◌+◌, ◌≤◌, length};
 ghost use Rattle.wire.specs.Splice.{splice};
 ghost use Rattle.wire.specs.Little.{number};

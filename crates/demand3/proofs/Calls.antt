@@ -53,7 +53,7 @@ pub record Fitting (boxed : Bool) (a : Arrays) : Type 0 where
   pub state_is : length a.state ≡ state_size
   pub form_is : form_at a.state ≡ boxed
 
--- ---- one message: the arrays that it leaves stand for the board that `record-call` leaves
+-- ---- one message: the arrays that it leaves stand for the board that `record_call` leaves
 
 module _ (boxed : Bool) where
   -- the board with its records

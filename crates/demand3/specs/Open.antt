@@ -1,5 +1,5 @@
 -- SHAPE: one name that opens every definition that a message, a mailbox and a power-up come to, and one that opens the observer and the plain gauge's
--- operations, for what is computed: `unfolding all-opened`. Assumes nothing.
+-- operations, for what is computed: `unfolding all_opened`. Assumes nothing.
 use Rattle.std.specs.Float.Ieee.{lt, is_nan, of_bits, of_fields}
 use Rattle.wire.specs.Splice.{splice}
 use Rattle.wire.specs.Little.{little, from_little, number}

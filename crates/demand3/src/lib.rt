@@ -1,1 +1,2 @@
 // Demand 3 at the board's calls: all of it stands in specs/ and proofs/.
+#![tactic(auto)]

@@ -1,4 +1,4 @@
--- RULE: THE TEXT LINES OF AN INPUT (R17.1), and the same as the bytes come one by one: `lines-heard nothing_yet input` is
+-- RULE: THE TEXT LINES OF AN INPUT (R17.1), and the same as the bytes come one by one: `lines_heard nothing_yet input` is
 -- `map spoken (lines input)`, which is the theorem of proofs/Hearing.antt.
 use Rattle.std.specs.Prelude.{Bool, true, false, cond, not, ◌&&◌, List, [], ◌∷◌, ◌++◌, ℕ, ◌+◌, ltb, eqb, length, take, set, replicate}
 use Rattle.dialogue.specs.declared.Spoken.{Spoken}

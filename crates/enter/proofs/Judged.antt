@@ -1,4 +1,4 @@
--- Levels by the ranks of 0 and 1500, and what `plainly-within` says: patterns up to that of 1500 are within. Assumes nothing.
+-- Levels by the ranks of 0 and 1500, and what `plainly_within` says: patterns up to that of 1500 are within. Assumes nothing.
 use mathlib.Core.Bool.{true, ◌&&◌, and-eq-true_iff}
 use mathlib.Core.Path.{◌≡◌, refl}
 use mathlib.Core.List.{List}

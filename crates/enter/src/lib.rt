@@ -1,4 +1,6 @@
 // A trip card that is written: its fields, its judgement, and the write into the trip entries.
+#![tactic(auto)]
+
 ghost use Rattle.std.specs.Prelude.{◌&&◌, ◌||◌, ◌≡◌, ◌+◌, ◌*◌, ◌/◌, ◌%◌, ◌≤◌, ◌<◌, length, get_or};
 ghost use Rattle.card.specs.Card.{point_1, point_2, fields_of, level_verdict, layout_verdict, first_bad, card_verdict, with_point, with_card};
 ghost use Rattle.card.specs.Asked.{plainly_within, fields_crossed};

@@ -1,4 +1,6 @@
 // One row's entry in the values: read, stored, and its default.
+#![tactic(auto)]
+
 ghost use Rattle.std.specs.Prelude.{◌≡◌, ◌<◌, length, replicate};
 ghost use Rattle.table.specs.Rows.{rows, row_count, at_row};
 ghost use Rattle.table.specs.Rule.{held};

@@ -1,4 +1,6 @@
 // The object table in the code: its columns, a row's fields by the row's number, and the way to a row.
+#![tactic(auto)]
+
 mod area;
 pub mod columns;
 pub mod field;
@@ -17,7 +19,7 @@ use table::code;
 pub const ROWS: usize = columns::ROWS;
 
 // Where a key leads: to a row, and beside it stands the row's shape (field.rt), which is read on the way; or nowhere, and the code says why.
-#[derive(Drop)]
+#[derive(Clone, Copy)]
 pub enum Gate {
     Open(usize, u16),
     Shut(u32),
@@ -97,7 +99,7 @@ fn gate_of(number: u32) -> Gate
 }
 
 // What a search comes to, and how many rows it looked at.
-#[derive(Drop)]
+#[derive(Clone, Copy)]
 pub struct Search {
     pub gate: Gate,
     pub looked: u32,

@@ -1,4 +1,6 @@
 // What may be read and written: the table's checks of a key, index, subindex and access; and the setup lock.
+#![tactic(auto)]
+
 pub mod lock;
 
 ghost use Rattle.std.specs.Prelude.{◌≡◌};

@@ -16,7 +16,7 @@ use limits::Verdict;
 use table::{code, kind, place};
 
 // How a write ends; after a restart the lines' transfers are dropped and the trips are off.
-#[derive(Drop)]
+#[derive(Clone, Copy)]
 pub enum Ending {
     Accepted,
     Restarted,

@@ -1,5 +1,7 @@
 // Writes by mailbox: openings, which may bring bytes behind their eight, and parts. Parts are served as on the other line; with functions of their own,
 // since the compiler puts a function into its caller only where it has one (docs/DECISIONS.md, 122).
+#![tactic(auto)]
+
 ghost use Rattle.std.specs.Prelude.{cond, not, ◌&&◌, ◌++◌, ◌≡◌, ◌+◌, ◌≤◌, eqb, length, take, drop};
 ghost use Rattle.order.specs.Talk.{part_taken, sizes};
 ghost use Rattle.order.specs.Serve.{write_opening, take_part, write_part};

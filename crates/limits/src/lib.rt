@@ -1,4 +1,6 @@
 // A value against the limits of its row. Limits are ranks: their places in the order of the type.
+#![tactic(auto)]
+
 ghost use Rattle.std.specs.Prelude.{◌≡◌, ◌+◌, ◌<◌, ◌≤◌, length};
 ghost use Rattle.wire.specs.Little.{number};
 ghost use Rattle.limits.specs.Limits.{whole_verdict, verdict_code, number_len, number_verdict, row_verdict};
@@ -17,7 +19,7 @@ const TOO_HIGH: u32 = 0x06090031;
 
 const TOO_LOW: u32 = 0x06090032;
 
-#[derive(Drop)]
+#[derive(Clone, Copy)]
 pub enum Verdict {
     Within,
     NotANumber,

@@ -1,4 +1,6 @@
 // One message on one line that asks for an answer, by what it says.
+#![tactic(auto)]
+
 pub mod read;
 pub mod reply;
 pub mod write;

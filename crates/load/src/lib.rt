@@ -1,4 +1,6 @@
 // A saved block taken into the values.
+#![tactic(auto)]
+
 ghost use Rattle.std.specs.Prelude.{◌≡◌, true, ◌+◌, ◌*◌, ◌^◌, ◌≤◌, ◌<◌, length, take, drop};
 ghost use Rattle.bits.specs.Bits.{bits, field};
 ghost use Rattle.limits.specs.Limits.{number_len};

@@ -1,4 +1,6 @@
 // The mailbox: what 128 lent bytes are, and the 128 bytes of an answer. Its headers are read through a reader.
+#![tactic(auto)]
+
 ghost use Rattle.std.specs.Prelude.{◌≡◌, ◌+◌, ◌*◌, ◌/◌, ◌%◌, ◌≤◌, length, take, drop};
 ghost use Rattle.wire.specs.Splice.{splice};
 ghost use Rattle.wire.specs.Little.{number};
@@ -24,7 +26,7 @@ const TYPE_COE: u16 = 3;
 const SDO_REQUEST: u16 = 2;
 
 // What is read of the headers: length field, address, type with counter, CoE number with service.
-#[derive(Drop)]
+#[derive(Clone, Copy)]
 pub struct Head {
     pub len: u16,
     pub address: u16,
@@ -33,7 +35,7 @@ pub struct Head {
 }
 
 // Not 128 bytes or a length field not 10 to 122; no SDO request; or one, with its head.
-#[derive(Drop)]
+#[derive(Clone, Copy)]
 pub enum Mail {
     Misshapen,
     NotSdo,

@@ -3,7 +3,7 @@ use Rattle.std.specs.Prelude.{ℕ, cond, List, [], ◌∷◌, ltb, length, take}
 use Rattle.std.proofs.Math.Option.{Option, none, some}
 use Rattle.order.specs.Talk.{Said, announced, unsaid, own, Read, value, denied, Sizes, sizes, closed, Outcome, stored, restarted, declined, Result, gave, yes!, code, taken}
 
--- A gauge, entry by entry; `name_of` is what answers tell of a key. `read_whole` judges index, subindex and access and gives the value. `write-sizes` is
+-- A gauge, entry by entry; `name_of` is what answers tell of a key. `read_whole` judges index, subindex and access and gives the value. `write_sizes` is
 -- what the table says of writing the entry; it has no store among its arguments. `commit` is given bytes of an allowed length: the last checks, then the write with its
 -- effects. `sampled` is the store after a sample
 pub record Gauge : Type 1 where

@@ -10,7 +10,7 @@ pub data Said : Type 0 where
   own : Said
 
 -- by the specifier: 2, 3, 1 with the value in it, 1 without, 0, 4, and 5 to 7 (R5.2 to R5.9).
--- Toggles are Bools; the last Bool of `send-part` marks the last part; `open-write` may carry bytes in a longer form of a line
+-- Toggles are Bools; the last Bool of `send_part` marks the last part; `open_write` may carry bytes in a longer form of a line
 pub data Request (K : Type 0) : Type 0 where
   open_read : K → Request K
   next_part : Bool → Request K
@@ -20,9 +20,9 @@ pub data Request (K : Type 0) : Type 0 where
   give_up : Request K
   unknown : Request K
 
--- `opened` answers the opening of a read: name, length, the bytes that it carries, whether these are all. `part-given` is a part
--- of a read, `write-opened` is 60 and `part-taken` 20 or 30. `refused` gives a code from 06020000 on, in the order of R7. One before it only drops a
--- transfer (R15.5): `dropped` tells it with the transfer's name, `no-transfer` is 05040001, which has none. `silent`: no answer
+-- `opened` answers the opening of a read: name, length, the bytes that it carries, whether these are all. `part_given` is a part
+-- of a read, `write_opened` is 60 and `part_taken` 20 or 30. `refused` gives a code from 06020000 on, in the order of R7. One before it only drops a
+-- transfer (R15.5): `dropped` tells it with the transfer's name, `no_transfer` is 05040001, which has none. `silent`: no answer
 pub data Answer (N : Type 0) : Type 0 where
   opened : N → ℕ → List ℕ → Bool → Answer N
   part_given : Bool → List ℕ → Bool → Answer N

@@ -1,4 +1,6 @@
 // Reads by mailbox: openings that carry the value, and parts. An entry has 64 bytes at most, so an opening carries all of it and a part is the last.
+#![tactic(auto)]
+
 ghost use Rattle.std.specs.Prelude.{[], ◌≡◌, ◌+◌, ◌*◌, ◌≤◌, ◌<◌, length, take};
 ghost use Rattle.wire.specs.Splice.{splice};
 ghost use Rattle.wire.specs.Flags.{bit};

@@ -1,4 +1,6 @@
 // One mailbox on the tool's line that asks for an answer: its SDO served, of 8 to 120 bytes, and the answer put into a mailbox.
+#![tactic(auto)]
+
 ghost use Rattle.std.specs.Prelude.{◌≡◌, ◌+◌, ◌≤◌, length};
 ghost use Rattle.mailbox.specs.Mail.{mailbox_size};
 ghost use Rattle.sdo.specs.declared.Heard.TheVariants.{Asks};

@@ -1,11 +1,13 @@
 // A reader over a lent datagram: it keeps the datagram and its place in it, and hands out one field after another. Each function takes it apart
 // and calls one on the slice and the number.
+#![tactic(auto)]
+
 ghost use Rattle.std.specs.Prelude.{◌≡◌, ◌+◌, ◌≤◌, ◌<◌, ◌^◌, length};
 ghost use Rattle.wire.specs.Little.{number};
 
 use wire::wide;
 
-#[derive(Drop)]
+#[derive(Clone, Copy)]
 pub struct Reader<'a> {
     pub datagram: &'a [u8],
     pub at: usize,

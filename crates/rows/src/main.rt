@@ -1,12 +1,13 @@
 // Prints the object table from the proved functions, one row to a line: index, subindex, type, access, NV mark, length, place,
 // minimum, maximum, default, and how many rows the search looks at for its key. Numbers are in capital hex, length, place and count in
 // decimal; a dash stands where a row has none.
+#![tactic(auto)]
+
 ghost use Rattle.std.specs.Prelude.{◌≡◌, ◌≤◌, ◌<◌};
 ghost use Rattle.table.specs.Rows.{row_count, at_row};
 
 use find::field;
-use io::{print_decimal, write_all};
-use libc::STDOUT_FILENO;
+use std::io;
 use table::{access, kind};
 use wire::wide;
 
@@ -20,7 +21,7 @@ fn digit(n: u8) -> u8
 }
 
 // The last digits of v, in hex.
-fn print_hex(v: u64, digits: usize)
+fn print_hex(rt: &impl Print, v: u64, digits: usize) -> io::Result<()>
     requires { digits ≤ 16 }
 {
     let mut text = [48u8; 16];
@@ -31,33 +32,33 @@ fn print_hex(v: u64, digits: usize)
         text[at] = digit((left % 16) as u8);
         left = left / 16;
     }
-    write_all(STDOUT_FILENO, &text[16 - digits..]);
+    rt.write_all(&text[16 - digits..])
 }
 
-fn print_kind(kind: u8) {
+fn print_kind(rt: &impl Print, kind: u8) -> io::Result<()> {
     match kind {
-        kind::BOOL => write_all(STDOUT_FILENO, b" BOOL "),
-        kind::USINT => write_all(STDOUT_FILENO, b" USINT "),
-        kind::UINT => write_all(STDOUT_FILENO, b" UINT "),
-        kind::UDINT => write_all(STDOUT_FILENO, b" UDINT "),
-        kind::ULINT => write_all(STDOUT_FILENO, b" ULINT "),
-        kind::REAL => write_all(STDOUT_FILENO, b" REAL "),
-        kind::STRING => write_all(STDOUT_FILENO, b" STRING "),
-        kind::CARD => write_all(STDOUT_FILENO, b" CARD "),
-        _ => write_all(STDOUT_FILENO, b" COMMAND "),
-    };
+        kind::BOOL => rt.write_all(b" BOOL "),
+        kind::USINT => rt.write_all(b" USINT "),
+        kind::UINT => rt.write_all(b" UINT "),
+        kind::UDINT => rt.write_all(b" UDINT "),
+        kind::ULINT => rt.write_all(b" ULINT "),
+        kind::REAL => rt.write_all(b" REAL "),
+        kind::STRING => rt.write_all(b" STRING "),
+        kind::CARD => rt.write_all(b" CARD "),
+        _ => rt.write_all(b" COMMAND "),
+    }
 }
 
-fn print_access(access: u8, nv: u8) {
+fn print_access(rt: &impl Print, access: u8, nv: u8) -> io::Result<()> {
     match access {
-        access::RO => write_all(STDOUT_FILENO, b"RO"),
-        access::WO => write_all(STDOUT_FILENO, b"WO"),
-        _ => write_all(STDOUT_FILENO, b"RW"),
-    };
+        access::RO => rt.write_all(b"RO")?,
+        access::WO => rt.write_all(b"WO")?,
+        _ => rt.write_all(b"RW")?,
+    }
     if nv == 1 {
-        write_all(STDOUT_FILENO, b" NV ");
+        rt.write_all(b" NV ")
     } else {
-        write_all(STDOUT_FILENO, b" - ");
+        rt.write_all(b" - ")
     }
 }
 
@@ -74,76 +75,72 @@ fn number_at(kind: u8, rank: u32) -> u64 {
 }
 
 // The least and the greatest number of a row. A ULINT takes every number.
-fn print_limits(row: usize, kind: u8, digits: usize)
+fn print_limits(rt: &impl Print, row: usize, kind: u8, digits: usize) -> io::Result<()>
     requires { (row < row_count) × (kind ≡ (at_row row).kind) × (digits ≤ 16) }
 {
     if kind == kind::ULINT {
-        write_all(STDOUT_FILENO, b" 0000000000000000 FFFFFFFFFFFFFFFF ");
-        return;
+        return rt.write_all(b" 0000000000000000 FFFFFFFFFFFFFFFF ");
     }
     let both = field::limits_of(row);
-    write_all(STDOUT_FILENO, b" ");
-    print_hex(number_at(kind, both.low), digits);
-    write_all(STDOUT_FILENO, b" ");
-    print_hex(number_at(kind, both.high), digits);
-    write_all(STDOUT_FILENO, b" ");
+    rt.write_all(b" ")?;
+    print_hex(rt, number_at(kind, both.low), digits)?;
+    rt.write_all(b" ")?;
+    print_hex(rt, number_at(kind, both.high), digits)?;
+    rt.write_all(b" ")
 }
 
 // Only numbers have limits and a default: of len bytes, so at most eight.
-fn print_number(row: usize, kind: u8, len: usize)
+fn print_number(rt: &impl Print, row: usize, kind: u8, len: usize) -> io::Result<()>
     requires { (row < row_count) × (kind ≡ (at_row row).kind) }
 {
     if 8 < len {
-        write_all(STDOUT_FILENO, b" - - -");
-        return;
+        return rt.write_all(b" - - -");
     }
-    print_limits(row, kind, 2 * len);
-    print_hex(field::def_of(row), 2 * len);
+    print_limits(rt, row, kind, 2 * len)?;
+    print_hex(rt, field::def_of(row), 2 * len)
 }
 
-fn print_row(row: usize)
+fn print_row(rt: &impl Print, row: usize) -> io::Result<()>
     requires { row < row_count }
 {
-    print_hex(wide::pair_to_usize(field::index_of(row)) as u64, 4);
-    write_all(STDOUT_FILENO, b" ");
-    print_hex(wide::to_u64(field::sub_of(row)), 2);
+    print_hex(rt, wide::pair_to_usize(field::index_of(row)) as u64, 4)?;
+    rt.write_all(b" ")?;
+    print_hex(rt, wide::to_u64(field::sub_of(row)), 2)?;
     let kind = field::kind_of(row);
-    print_kind(kind);
-    print_access(field::access_of(row), field::nv_of(row));
-    print_extent(row, kind);
-    print_looks(field::index_of(row), field::sub_of(row));
+    print_kind(rt, kind)?;
+    print_access(rt, field::access_of(row), field::nv_of(row))?;
+    print_extent(rt, row, kind)?;
+    print_looks(rt, field::index_of(row), field::sub_of(row))
 }
 
 // Length and place, and what only numbers have.
-fn print_extent(row: usize, kind: u8)
+fn print_extent(rt: &impl Print, row: usize, kind: u8) -> io::Result<()>
     requires { (row < row_count) × (kind ≡ (at_row row).kind) }
 {
     let len = field::len_of(row);
-    print_decimal(STDOUT_FILENO, len as u64);
-    write_all(STDOUT_FILENO, b" ");
+    print!(rt; "{len} ")?;
     if kind < kind::CARD {
-        print_decimal(STDOUT_FILENO, field::place_of(row) as u64);
+        print!(rt; "{}", field::place_of(row))?;
     } else {
-        write_all(STDOUT_FILENO, b"-");
+        rt.write_all(b"-")?;
     }
     if kind < kind::STRING {
-        print_number(row, kind, len);
+        print_number(rt, row, kind, len)
     } else {
-        write_all(STDOUT_FILENO, b" - - -");
+        rt.write_all(b" - - -")
     }
 }
 
-fn print_looks(index: u16, sub: u8) {
+fn print_looks(rt: &impl Print, index: u16, sub: u8) -> io::Result<()> {
     let search = find::find_counted(index, sub);
-    write_all(STDOUT_FILENO, b" ");
-    print_decimal(STDOUT_FILENO, wide::word_to_u64(search.looked));
-    write_all(STDOUT_FILENO, b"\n");
+    println!(rt; " {}", search.looked)
 }
 
-fn main() {
+fn main(rt: HostRuntime) -> io::Result<()> {
     let mut row = 0;
     while row < find::ROWS {
-        print_row(row);
+        print_row(&rt, row)?;
         row += 1;
     }
+    Ok(())
 }

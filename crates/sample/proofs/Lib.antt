@@ -1,6 +1,6 @@
 -- Laws that other crates cite.
 pub mod SampleLaws
-pub mod Hidden
+pub mod HiddenFaults
 pub mod ImageLaws
 pub mod Opened
 pub mod WholeSamples

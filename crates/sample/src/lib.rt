@@ -1,4 +1,6 @@
 // A sample: reading, trips, fault words, summary byte and time; and the cyclic image.
+#![tactic(auto)]
+
 pub mod image;
 
 ghost use Rattle.std.specs.Prelude.{false, ◌≡◌, ◌+◌, ◌≤◌, length};

@@ -1,4 +1,4 @@
--- RULE: EIGHT BYTES IN, EIGHT BYTES OUT: `ask-of` is what a message asks, `answer-of` the bytes of an answer, and `tell-of` what a client
+-- RULE: EIGHT BYTES IN, EIGHT BYTES OUT: `ask_of` is what a message asks, `answer_of` the bytes of an answer, and `tell_of` what a client
 -- reads in them. Bits and bytes of a message that no rule names are not looked at (R5.11).
 use Rattle.std.specs.Prelude.{ℕ, zero, suc, ◌+◌, ◌-◌, ◌*◌, ◌/◌, ◌%◌, ◌≤◌, ◌<◌, ◌≡◌, Bool, true, false, cond, ◌&&◌, List, [], ◌∷◌, ◌++◌, T, eqb, leb, length, take, drop, get_or, replicate}
 use Rattle.std.proofs.Common.{arith, le_refl}

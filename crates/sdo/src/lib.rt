@@ -1,4 +1,6 @@
 // The eight bytes of a message and of an answer.
+#![tactic(auto)]
+
 pub mod answer;
 pub mod decode;
 
@@ -15,7 +17,7 @@ pub const VALUE: usize = 4;
 pub const VALUE_AT: usize = 4;
 
 // An entry's name: index and subindex.
-#[derive(Drop)]
+#[derive(Clone, Copy)]
 pub struct Key {
     pub index: u16,
     pub sub: u8,
@@ -23,7 +25,7 @@ pub struct Key {
 
 // How a write is opened. The value stands in the message, of so many bytes or of the entry's own length; or parts follow, their length
 // announced or not said.
-#[derive(Drop)]
+#[derive(Clone, Copy)]
 pub enum Opening {
     Value(usize),
     Own,
@@ -32,7 +34,7 @@ pub enum Opening {
 }
 
 // A message that asks for an answer. The bytes of a write stay in the message; their count stands here.
-#[derive(Drop)]
+#[derive(Clone, Copy)]
 pub enum Message {
     // toggle, count of bytes, last
     SendPart(bool, usize, bool),
@@ -43,7 +45,7 @@ pub enum Message {
 }
 
 // What is heard: the client's abort, which has no answer, or a message that asks for one.
-#[derive(Drop)]
+#[derive(Clone, Copy)]
 pub enum Heard {
     GiveUp,
     Asks(Message),

@@ -1,4 +1,6 @@
 // The state bytes: transfer records and trip states by value, and back.
+#![tactic(auto)]
+
 ghost use Rattle.std.specs.Prelude.{◌≡◌, ◌+◌, ◌≤◌, length, take, drop};
 ghost use Rattle.wire.specs.Splice.{splice};
 ghost use Rattle.transfer.specs.Records.{zero_record};

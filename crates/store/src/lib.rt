@@ -1,4 +1,6 @@
 // The values written into a saved block.
+#![tactic(auto)]
+
 ghost use Rattle.std.specs.Prelude.{◌≡◌, true, ◌++◌, ◌+◌, ◌-◌, ◌^◌, ◌≤◌, ◌<◌, length, take, drop, replicate};
 ghost use Rattle.bits.specs.Bits.{bits, msb};
 ghost use Rattle.limits.specs.Limits.{number_len};

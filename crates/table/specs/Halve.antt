@@ -32,7 +32,7 @@ looks table i s low high = some_looks (high - low) table i s low high
 unfoldable pub look_count : ℕ → ℕ → ℕ
 look_count i s = length (looks rows i s 0 row_count)
 
--- what rows that are looked at tell, as `find-from` says it of all rows; seen says whether an earlier one had the index
+-- what rows that are looked at tell, as `find_from` says it of all rows; seen says whether an earlier one had the index
 unfoldable pub told : List Row → ℕ → ℕ → Bool → List ℕ → Found
 told table i s seen [] = absence seen
 told table i s seen (m ∷ ms) =

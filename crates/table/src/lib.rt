@@ -1,4 +1,6 @@
 // The object table: its rows and their rule stand in specs/, and here what the code calls them by name.
+#![tactic(auto)]
+
 pub mod access;
 pub mod code;
 pub mod kind;

@@ -1,8 +1,11 @@
 -- THE WHOLE RUN: however the input comes, the memory is in the end what its lines leave, one after the other. Assumes nothing.
 use mathlib.Core.Bool.{Bool, true, false, cond}
 use mathlib.Core.List.{List, [], ◌∷◌, ◌++◌, map}
-use mathlib.Core.Path.{◌≡◌, refl, ap, ◌∙◌}
-use Prim.Native.Nat.{ℕ}
+use mathlib.Core.Path.{◌≡◌, refl, sym, ap, ◌∙◌}
+use Prim.Native.Nat.{ℕ, ◌+◌, ◌<◌}
+use native.Mathlib.Numerals.{add-one}
+use lib.ListN.{length, take, get_or}
+use lib.Seq.{take-suc}
 use Rattle.dialogue.specs.declared.Pending.{Pending}
 use Rattle.dialogue.specs.Text.{spoken}
 use Rattle.dialogue.specs.Lines.{lines, nothing_yet, after, pending_spoken, left_over, lines_heard}
@@ -34,3 +37,15 @@ pub chunks : (a b : List ℕ) (g : Progress) → after_bytes g (a ++ b) ≡ afte
 unfolding after_bytes
 chunks [] b g = refl
 chunks (x ∷ a) b g = chunks a b (after_byte g x)
+
+-- one byte more is taken
+module _ (bytes : List ℕ) (i : ℕ) (g now : Progress) (h : i < length bytes) (e : now ≡ after_bytes g (take i bytes)) where
+  taken_more : after_byte now (get_or bytes i 0) ≡ after_bytes g (take (i + 1) bytes)
+  unfolding after_bytes
+  taken_more = rw (add-one i, take-suc bytes i 0 h, e) (sym (chunks (take i bytes) (get_or bytes i 0 ∷ []) g))
+
+  pub taken_next : (next : Progress) → next ≡ after_byte now (get_or bytes i 0) → next ≡ after_bytes g (take (i + 1) bytes)
+  taken_next next k = k ∙ taken_more
+
+  pub left_next : (left : Memory) → left ≡ (after_byte now (get_or bytes i 0)).left → left ≡ (after_bytes g (take (i + 1) bytes)).left
+  left_next left k = k ∙ ap (λ (x : Progress). x.left) taken_more

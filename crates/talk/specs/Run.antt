@@ -1,5 +1,5 @@
 -- RULE: THE MEMORY OVER A WHOLE INPUT: byte by byte as the program goes, and line by line. Both come to the same (proofs/Whole.antt).
-use Rattle.std.specs.Prelude.{Bool, true, false, cond, List, [], ◌∷◌, ℕ}
+use Rattle.std.specs.Prelude.{◌≡◌, ◌<◌, ◌+◌, Bool, true, false, cond, List, [], ◌∷◌, length, take, ℕ}
 use Rattle.dialogue.specs.declared.Spoken.{Spoken}
 use Rattle.dialogue.specs.declared.Pending.{Pending}
 use Rattle.dialogue.specs.Lines.{after, pending_spoken, left_over}
@@ -27,6 +27,10 @@ after_byte g b = served_if (after g.pending b).ended (after g.pending b) g.left
 unfoldable pub after_bytes : Progress → List ℕ → Progress
 after_bytes g [] = g
 after_bytes g (b ∷ bs) = after_bytes (after_byte g b) bs
+
+-- where a reply could not be printed: the bytes up to one of them were taken, that one too, and none behind it
+abbrev pub SomeTaken : Progress → List ℕ → Memory → Type 0
+SomeTaken g bs m = (n : ℕ) × ((n < length bs) × (m ≡ (after_bytes g (take (n + 1) bs)).left))
 
 -- at the end of the input the last line is served too, where it has no newline and is not empty
 unfoldable pub after_end : Progress → Memory

@@ -1,64 +1,77 @@
 // Serves the text lines of standard input as they come (R17.1, R17.2). The board starts on a zero block, from power-up (R17.3).
+#![tactic(auto)]
+
 mod serve;
 
-ghost use Rattle.std.specs.Prelude.{◌≤◌};
+ghost use Rattle.std.specs.Prelude.{◌≤◌, IfOk};
 
 use dialogue::{Pending, hear};
-use libc::STDIN_FILENO;
+use std::io;
+use std::io::{Input, Read};
 
 // The line that is coming, and whether the input is over.
-#[derive(Drop)]
+#[derive(Clone, Copy)]
 struct Heard {
     pub pending: Pending,
     pub over: bool,
 }
 
 // Reads once and serves the lines that end in what came.
-fn hear_some(pending: Pending, values: &mut [u8], block: &mut [u8], state: &mut [u8]) -> Heard
+fn hear_some(
+    rt: &impl Print,
+    input: &mut impl Read,
+    pending: Pending,
+    values: &mut [u8],
+    block: &mut [u8],
+    state: &mut [u8],
+) -> io::Result<Heard>
     requires { pending.count ≤ 20 }
-    ensures { result.pending.count ≤ 20 }
+    ensures { IfOk result (λ heard. heard.pending.count ≤ 20) }
 {
-    let mut buffer = io::buffer();
-    let got = libc::read(STDIN_FILENO, &mut buffer);
-    if got <= 0 {
-        return Heard {
+    let mut buffer = [0u8; 4096];
+    let count = input.read(&mut buffer)?;
+    if count == 0 {
+        return Ok(Heard {
             pending,
             over: true,
-        };
+        });
     }
-    let count = io::count(got, &buffer);
-    let next = serve::serve_bytes(&buffer[..count], pending, values, block, state);
-    Heard {
+    let next = serve::serve_bytes(rt, &buffer[..count], pending, values, block, state)?;
+    Ok(Heard {
         pending: next,
         over: false,
-    }
+    })
 }
 
-// A proved loop has to end, and nothing says that the input does. So it counts its reads down, from a number that no run uses up.
-fn hear_all(values: &mut [u8], block: &mut [u8], state: &mut [u8]) -> Pending
-    ensures { result.count ≤ 20 }
+// A proved loop has to end, and nothing says that the input does. So it counts its reads, up to a number that no run comes to.
+fn hear_all(
+    rt: &impl Print,
+    input: &mut impl Read,
+    values: &mut [u8],
+    block: &mut [u8],
+    state: &mut [u8],
+) -> io::Result<Pending>
+    ensures { IfOk result (λ last. last.count ≤ 20) }
 {
     let mut pending = hear::begun();
-    let mut reads = u64::MAX;
-    while 0 < reads {
-        let heard = hear_some(pending, values, block, state);
-        let next = heard.pending;
+    for _ in 0..u64::MAX {
+        let heard = hear_some(rt, input, pending, values, block, state)?;
+        pending = heard.pending;
         if heard.over {
-            return next;
+            break;
         }
-        pending = next;
-        reads -= 1;
     }
-    pending
+    Ok(pending)
 }
 
-fn main() {
+fn main(rt: HostRuntime) -> io::Result<()> {
     let mut values = [0u8; board::VALUES_SIZE];
     let mut block = [0u8; board::BLOCK_SIZE];
     let mut state = [0u8; board::STATE_SIZE];
     board::gauge_power_up(board::FORM_EIGHT, &mut values, &block, &mut state);
-    let last = hear_all(&mut values, &mut block, &mut state);
+    let last = hear_all(&rt, &mut rt.reader(), &mut values, &mut block, &mut state)?;
     if hear::is_left(last) {
-        serve::serve_line(last, &mut values, &mut block, &mut state);
+        serve::serve_line(&rt, last, &mut values, &mut block, &mut state)?;
     }
+    Ok(())
 }

@@ -1,4 +1,6 @@
 // A line's transfer by value: whether it counts, and the record after an opening or a part.
+#![tactic(auto)]
+
 ghost use Rattle.std.specs.Prelude.{◌&&◌, ◌≡◌, ◌+◌, ◌≤◌, ◌<◌, length, take, drop, leb};
 ghost use Rattle.table.specs.Rows.{row_count};
 ghost use Rattle.find.specs.Columns.{smallest_in, largest_in};
@@ -8,7 +10,7 @@ ghost use Rattle.transfer.specs.Turns.{is_reading, is_writing, opened_record, tu
 use sdo::Key;
 use table::access;
 
-#[derive(Drop)]
+#[derive(Clone, Copy)]
 pub enum Direction {
     Neither,
     Reads,
@@ -16,7 +18,7 @@ pub enum Direction {
 }
 
 // Of a read held begins with the value, of a write with the bytes sent; place is the count of bytes given or sent.
-#[derive(Drop)]
+#[derive(Clone, Copy)]
 pub struct Transfer {
     pub held: [u8; 64],
     pub row: usize,

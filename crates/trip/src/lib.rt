@@ -1,29 +1,31 @@
 // Trip sides and points by value: how a sample turns them on and off.
+#![tactic(auto)]
+
 ghost use Rattle.std.specs.Prelude.{◌≡◌};
 ghost use Rattle.trip.specs.Trip.{side_settled, low_next, high_next, point_next, all_off, usable_pressure};
 
-#[derive(Drop)]
+#[derive(Clone, Copy)]
 pub struct Side {
     pub level: f32,
     pub hysteresis: f32,
     pub enabled: bool,
 }
 
-#[derive(Drop)]
+#[derive(Clone, Copy)]
 pub struct Point {
     pub high: Side,
     pub low: Side,
 }
 
 // Which sides of a point are on.
-#[derive(Drop)]
+#[derive(Clone, Copy)]
 pub struct On {
     pub high: bool,
     pub low: bool,
 }
 
 // Both trip points.
-#[derive(Drop)]
+#[derive(Clone, Copy)]
 pub struct Trips {
     pub one: On,
     pub two: On,

@@ -3,7 +3,8 @@
 // A card stands here as its bytes 0 to 3, 4 to 7 and so on; byte 32 is zero in all of them. Its settings stand as bytes of the values,
 // where numbers are little-endian: of point 1 the enables (high at 258, low at 259, after two bytes of no setting), high level (260),
 // low level (272), high hysteresis (284) and low hysteresis (288), then the same of point 2, 38 bytes later.
-use crate::report::{compare_values, put_fours, say};
+use crate::report::{compare_values, put_fours, same, say};
+use std::io;
 
 // ---- cards and their settings
 
@@ -76,92 +77,112 @@ fn whole(card: &[u8; 33]) -> [u8; 64] {
     bytes
 }
 
-fn shows(name: &[u8], set: [u64; 10], card: [u64; 8]) {
+fn shows(rt: &impl Print, name: &[u8], set: [u64; 10], card: [u64; 8]) -> io::Result<()> {
     let shown = card::card_of(&values_of(set));
-    say(name, check::same(&shown, &whole(&card_of(card))));
+    say(rt, name, same(&shown, &whole(&card_of(card))))
 }
 
-pub fn shown() {
-    shows(b"card: example K", K_SET, K);
-    shows(b"card: all zero", OFF, ZERO);
-    shows(b"card: both points, all sides", FULL_SET, FULL);
-    shows(b"card: minus zero", MINUS_ZERO_SET, MINUS_ZERO);
-    shows(b"card: not a number, lent", LENT_SET, LENT);
-    shows(b"card: enables other than 0 and 1", ENABLES_SET, ENABLES);
-    shows(b"card: a number across five bytes", ACROSS_SET, ACROSS);
+pub fn shown(rt: &impl Print) -> io::Result<()> {
+    shows(rt, b"card: example K", K_SET, K)?;
+    shows(rt, b"card: all zero", OFF, ZERO)?;
+    shows(rt, b"card: both points, all sides", FULL_SET, FULL)?;
+    shows(rt, b"card: minus zero", MINUS_ZERO_SET, MINUS_ZERO)?;
+    shows(rt, b"card: not a number, lent", LENT_SET, LENT)?;
+    shows(
+        rt,
+        b"card: enables other than 0 and 1",
+        ENABLES_SET,
+        ENABLES,
+    )?;
+    shows(rt, b"card: a number across five bytes", ACROSS_SET, ACROSS)
 }
 
 // ---- judging
 
 // Expects the code of the verdict, 0 for none.
-fn judges(name: &[u8], card: [u64; 8], code: u32) {
-    say(name, limits::code_of(enter::judge(&card_of(card))) == code);
+fn judges(rt: &impl Print, name: &[u8], card: [u64; 8], code: u32) -> io::Result<()> {
+    say(
+        rt,
+        name,
+        limits::code_of(enter::judge(&card_of(card))) == code,
+    )
 }
 
-fn whole_cards() {
-    judges(b"judged: example K", K, 0);
-    judges(b"judged: all sides", FULL, 0);
-    judges(b"judged: minus zero", MINUS_ZERO, 0);
-    judges(b"judged: not a number", LENT, 0x06090030);
+fn whole_cards(rt: &impl Print) -> io::Result<()> {
+    judges(rt, b"judged: example K", K, 0)?;
+    judges(rt, b"judged: all sides", FULL, 0)?;
+    judges(rt, b"judged: minus zero", MINUS_ZERO, 0)?;
+    judges(rt, b"judged: not a number", LENT, 0x06090030)
 }
 
 // Only the layout, and high level and high hysteresis of point 2, from byte 17 and byte 21 on.
-fn layouts() {
-    judges(b"judged: layout 0", [0, 0, 0, 0, 0, 0, 0, 0], 0x06090030);
+fn layouts(rt: &impl Print) -> io::Result<()> {
     judges(
+        rt,
+        b"judged: layout 0",
+        [0, 0, 0, 0, 0, 0, 0, 0],
+        0x06090030,
+    )?;
+    judges(
+        rt,
         b"judged: layout 2 before a level above",
         [0x20000000, 0, 0, 0, 0x0044BB80, 0x01000000, 0, 0],
         0x06090030,
-    );
+    )
 }
 
 // 1500 is 44BB8000; 80000001 is the first below minus zero.
-fn levels() {
+fn levels(rt: &impl Print) -> io::Result<()> {
     judges(
+        rt,
         b"judged: 1500",
         [0x10000000, 0, 0, 0, 0x0044BB80, 0x0044BB80, 0, 0],
         0,
-    );
+    )?;
     judges(
+        rt,
         b"judged: level above",
         [0x10000000, 0, 0, 0, 0x0044BB80, 0x01000000, 0, 0],
         0x06090031,
-    );
+    )?;
     judges(
+        rt,
         b"judged: level below",
         [0x10000000, 0, 0, 0, 0x00800000, 0x01000000, 0, 0],
         0x06090032,
-    );
+    )
 }
 
 // 7F800000 and FF800000 are the infinities, 7FC00000 is not a number.
-fn first_fields() {
+fn first_fields(rt: &impl Print) -> io::Result<()> {
     judges(
+        rt,
         b"judged: above before not a number",
         [0x10000000, 0, 0, 0, 0x007F8000, 0x007FC000, 0, 0],
         0x06090031,
-    );
+    )?;
     judges(
+        rt,
         b"judged: below before above",
         [0x10000000, 0, 0, 0, 0x00FF8000, 0x007F8000, 0, 0],
         0x06090032,
-    );
+    )
 }
 
-pub fn judged() {
-    whole_cards();
-    layouts();
-    levels();
-    first_fields();
+pub fn judged(rt: &impl Print) -> io::Result<()> {
+    whole_cards(rt)?;
+    layouts(rt)?;
+    levels(rt)?;
+    first_fields(rt)
 }
 
 // ---- writing
 
 // A card written into zeros is these settings.
-fn writes(name: &[u8], card: [u64; 8], set: [u64; 10]) {
+fn writes(rt: &impl Print, name: &[u8], card: [u64; 8], set: [u64; 10]) -> io::Result<()> {
     let mut values = [0u8; 1024];
     enter::write(&mut values, &card_of(card));
-    say(name, check::same(&values, &values_of(set)));
+    say(rt, name, same(&values, &values_of(set)))
 }
 
 // Bytes of no setting.
@@ -174,18 +195,19 @@ fn with_others(set: [u64; 10]) -> [u8; 1024] {
 }
 
 // A card of zeros over lent enables and levels: only the twelve entries change.
-fn writes_over() {
+fn writes_over(rt: &impl Print) -> io::Result<()> {
     let mut values = with_others(FULL_SET);
     enter::write(&mut values, &card_of(ZERO));
     compare_values(
+        rt,
         b"written: zeros, and all else stays",
         &values,
         &with_others(OFF),
-    );
+    )
 }
 
-pub fn written() {
-    writes(b"written: example K", K, K_SET);
-    writes(b"written: all sides", FULL, FULL_SET);
-    writes_over();
+pub fn written(rt: &impl Print) -> io::Result<()> {
+    writes(rt, b"written: example K", K, K_SET)?;
+    writes(rt, b"written: all sides", FULL, FULL_SET)?;
+    writes_over(rt)
 }

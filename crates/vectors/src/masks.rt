@@ -1,6 +1,7 @@
 // Masks: the summary under them, and a block that brings one. In the values F380 is byte 354, F383:01 begins at 363 and F3A3:01 at 428.
 use crate::blocks::default_block;
 use crate::report::say;
+use std::io;
 
 // Over temperature and filament 1 are active, 0401, under a mask with these two low bytes. The summary byte was lent, and is neither of those
 // that are worked out.
@@ -20,11 +21,19 @@ fn shown(low: u8, high: u8) -> u8 {
     values[354]
 }
 
-pub fn hidden() {
-    say(b"mask: nothing is hidden", shown(0x00, 0x00) == 4);
-    say(b"mask: one fault of two is hidden", shown(0x00, 0x04) == 4);
-    say(b"mask: all but a fault is hidden", shown(0xFF, 0xFB) == 4);
-    say(b"mask: both faults are hidden", shown(0x01, 0x04) == 0);
+pub fn hidden(rt: &impl Print) -> io::Result<()> {
+    say(rt, b"mask: nothing is hidden", shown(0x00, 0x00) == 4)?;
+    say(
+        rt,
+        b"mask: one fault of two is hidden",
+        shown(0x00, 0x04) == 4,
+    )?;
+    say(
+        rt,
+        b"mask: all but a fault is hidden",
+        shown(0xFF, 0xFB) == 4,
+    )?;
+    say(rt, b"mask: both faults are hidden", shown(0x01, 0x04) == 0)
 }
 
 // F3A3:01 is 0401 in the block, from bit 950 on: bit 971, 10 in byte 121, and bit 981, 04 in byte 122.
@@ -35,18 +44,20 @@ fn masked_block() -> [u8; 512] {
     block
 }
 
-pub fn loaded() {
+pub fn loaded(rt: &impl Print) -> io::Result<()> {
     let mut values = with_faults(0x00, 0x00);
     let taken = gauge::power::take_block(&mut values, &masked_block());
     let masked = (values[428] == 0x01) & (values[429] == 0x04);
     say(
+        rt,
         b"load: a mask of the block acts at once",
         taken & masked & (values[354] == 0),
-    );
+    )?;
     let mut others = with_faults(0x00, 0x00);
     let refused = !gauge::power::take_block(&mut others, &[0u8; 512]);
     say(
+        rt,
         b"load: a faulty block leaves the summary",
         refused & (others[354] == 0x55),
-    );
+    )
 }

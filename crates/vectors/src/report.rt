@@ -1,21 +1,32 @@
 // One line for each vector, and the bytes that a vector is made of.
-ghost use Rattle.std.specs.Prelude.{◌≡◌, ◌+◌, ◌≤◌, length};
+ghost use Rattle.std.specs.Prelude.{◌≡◌, ◌+◌, ◌≤◌, ◌↔◌, IsTrue, length};
 
-use io::write_all;
-use libc::STDOUT_FILENO;
+use std::io;
 
-pub fn say(name: &[u8], right: bool) {
+pub fn say(rt: &impl Print, name: &[u8], right: bool) -> io::Result<()> {
     if right {
-        write_all(STDOUT_FILENO, b"ok ");
+        rt.write_all(b"ok ")?;
     } else {
-        write_all(STDOUT_FILENO, b"DIFFERS ");
+        rt.write_all(b"DIFFERS ")?;
     }
-    write_all(STDOUT_FILENO, name);
-    write_all(STDOUT_FILENO, b"\n");
+    rt.write_all(name)?;
+    rt.write_all(b"\n")
 }
 
-pub fn compare_values(name: &[u8], got: &[u8; 1024], expected: &[u8; 1024]) {
-    say(name, check::same(got, expected));
+// Do both hold the same bytes?
+pub fn same(a: &[u8], b: &[u8]) -> bool
+    ensures { IsTrue result ↔ a.now ≡ b.now }
+{
+    a == b
+}
+
+pub fn compare_values(
+    rt: &impl Print,
+    name: &[u8],
+    got: &[u8; 1024],
+    expected: &[u8; 1024],
+) -> io::Result<()> {
+    say(rt, name, same(got, expected))
 }
 
 // The last count bytes of run, as they are written, from byte at on.

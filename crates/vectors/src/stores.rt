@@ -3,7 +3,8 @@
 ghost use Rattle.std.specs.Prelude.{◌+◌, ◌≤◌};
 
 use crate::blocks::default_block;
-use crate::report::{compare_values, put_fours, say};
+use crate::report::{compare_values, put_fours, same, say};
+use std::io;
 
 fn default_values() -> [u8; 1024] {
     let mut values = [0u8; 1024];
@@ -14,10 +15,15 @@ fn default_values() -> [u8; 1024] {
 // ---- storing
 
 // A store that is taken writes these 512 bytes.
-fn stores(name: &[u8], values: &[u8; 1024], expected: &[u8; 512]) {
+fn stores(
+    rt: &impl Print,
+    name: &[u8],
+    values: &[u8; 1024],
+    expected: &[u8; 512],
+) -> io::Result<()> {
     let mut block = [0xA5u8; 512];
     let taken = store::store(values, &mut block);
-    say(name, taken & check::same(&block, expected));
+    say(rt, name, taken & same(&block, expected))
 }
 
 // Label 41 42 43, bytes 1 to 3 of the block. 8005:01 on: bit 264. 800E:11 is 1.5, 3FC00000, from the middle of byte 38 on.
@@ -64,69 +70,77 @@ fn straight_block() -> [u8; 512] {
     block
 }
 
-fn stores_some() {
+fn stores_some(rt: &impl Print) -> io::Result<()> {
     stores(
+        rt,
         b"store: label, BOOL, REAL and a last entry",
         &some_values(),
         &some_block(),
-    );
+    )
 }
 
-fn stores_others() {
+fn stores_others(rt: &impl Print) -> io::Result<()> {
     stores(
+        rt,
         b"store: lock, summary and spare bytes stay out",
         &other_values(),
         &default_block(),
-    );
+    )
 }
 
-fn stores_straight() {
+fn stores_straight(rt: &impl Print) -> io::Result<()> {
     stores(
+        rt,
         b"store: both sides on, 0 below 1500",
         &straight_values(),
         &straight_block(),
-    );
+    )
 }
 
-pub fn stored() {
-    stores(b"store: the defaults", &default_values(), &default_block());
-    stores_some();
-    stores_others();
-    stores_straight();
+pub fn stored(rt: &impl Print) -> io::Result<()> {
+    stores(
+        rt,
+        b"store: the defaults",
+        &default_values(),
+        &default_block(),
+    )?;
+    stores_some(rt)?;
+    stores_others(rt)?;
+    stores_straight(rt)
 }
 
 // ---- refusing
 
 // A lent NV value outside its limits, or a crossed trip point: nothing is written.
-fn refuses(name: &[u8], values: &[u8; 1024]) {
+fn refuses(rt: &impl Print, name: &[u8], values: &[u8; 1024]) -> io::Result<()> {
     let mut block = [0xA5u8; 512];
     let taken = store::store(values, &mut block);
-    say(name, !taken & check::same(&block, &[0xA5u8; 512]));
+    say(rt, name, !taken & same(&block, &[0xA5u8; 512]))
 }
 
 // The defaults, with one number of len bytes lent at a place.
-fn refuses_lent(name: &[u8], at: usize, len: usize, v: u64)
+fn refuses_lent(rt: &impl Print, name: &[u8], at: usize, len: usize, v: u64) -> io::Result<()>
     requires { at + len ≤ 1024 }
 {
     let mut values = default_values();
     wire::put_number(&mut values, at, len, v);
-    refuses(name, &values);
+    refuses(rt, name, &values)
 }
 
 // At 251 stands 8005:01, at 253 8005:11, at 260 800E:11 (2048 is 45000000).
-fn refused_first() {
-    refuses(b"store: all zero, so 8005:11 is 0", &[0u8; 1024]);
-    refuses_lent(b"store: BOOL 2 lent", 251, 1, 0x02);
-    refuses_lent(b"store: USINT above", 253, 1, 0x03);
-    refuses_lent(b"store: REAL above", 260, 4, 0x45000000);
+fn refused_first(rt: &impl Print) -> io::Result<()> {
+    refuses(rt, b"store: all zero, so 8005:11 is 0", &[0u8; 1024])?;
+    refuses_lent(rt, b"store: BOOL 2 lent", 251, 1, 0x02)?;
+    refuses_lent(rt, b"store: USINT above", 253, 1, 0x03)?;
+    refuses_lent(rt, b"store: REAL above", 260, 4, 0x45000000)
 }
 
 // At 264 stands 800E:12, at 460 F840:01, at 464 F840:03, at 254 8005:13.
-fn refused_last() {
-    refuses_lent(b"store: source index other", 264, 4, 0x800E1101);
-    refuses_lent(b"store: UDINT below", 460, 4, 0x00210000);
-    refuses_lent(b"store: last NV number with limits", 464, 1, 0x06);
-    refuses_lent(b"store: REAL not a number", 254, 4, 0x7FC00000);
+fn refused_last(rt: &impl Print) -> io::Result<()> {
+    refuses_lent(rt, b"store: source index other", 264, 4, 0x800E1101)?;
+    refuses_lent(rt, b"store: UDINT below", 460, 4, 0x00210000)?;
+    refuses_lent(rt, b"store: last NV number with limits", 464, 1, 0x06)?;
+    refuses_lent(rt, b"store: REAL not a number", 254, 4, 0x7FC00000)
 }
 
 // Both sides of trip point 1 at 258, of trip point 2 at 296, where all levels are 0. At 272 stands 800E:14: 1.5 is 3FC00000.
@@ -136,16 +150,16 @@ fn crossed_values() -> [u8; 1024] {
     values
 }
 
-fn refused_crossed() {
-    refuses_lent(b"store: both sides on, both levels 0", 258, 2, 0x0101);
-    refuses_lent(b"store: the same of the second point", 296, 2, 0x0101);
-    refuses(b"store: both sides on, 1.5 over 1", &crossed_values());
+fn refused_crossed(rt: &impl Print) -> io::Result<()> {
+    refuses_lent(rt, b"store: both sides on, both levels 0", 258, 2, 0x0101)?;
+    refuses_lent(rt, b"store: the same of the second point", 296, 2, 0x0101)?;
+    refuses(rt, b"store: both sides on, 1.5 over 1", &crossed_values())
 }
 
-pub fn refused() {
-    refused_first();
-    refused_last();
-    refused_crossed();
+pub fn refused(rt: &impl Print) -> io::Result<()> {
+    refused_first(rt)?;
+    refused_last(rt)?;
+    refused_crossed(rt)
 }
 
 // ---- there and back
@@ -165,62 +179,66 @@ fn nv_defaults() -> [u8; 1024] {
 }
 
 // The defaults loaded into zeros are these and no other byte.
-fn loads_defaults() {
+fn loads_defaults(rt: &impl Print) -> io::Result<()> {
     let mut values = [0u8; 1024];
     let taken = load::load(&default_block(), &mut values);
     say(
+        rt,
         b"load: the defaults into zeros",
-        taken & check::same(&values, &nv_defaults()),
-    );
+        taken & same(&values, &nv_defaults()),
+    )
 }
 
 // What was stored comes back over defaults.
-fn comes_back() {
+fn comes_back(rt: &impl Print) -> io::Result<()> {
     let values = some_values();
     let mut block = [0u8; 512];
     let stored = store::store(&values, &mut block);
     let mut fresh = default_values();
     let loaded = load::load(&block, &mut fresh);
     say(
+        rt,
         b"load: what was stored comes back",
-        stored & loaded & check::same(&fresh, &values),
-    );
+        stored & loaded & same(&fresh, &values),
+    )
 }
 
 // Only NV entries are loaded: lock, summary and spare bytes stay. The summary is worked out behind it (masks.rt).
-fn others_stay() {
+fn others_stay(rt: &impl Print) -> io::Result<()> {
     let mut values = other_values();
     load::load(&default_block(), &mut values);
     compare_values(
+        rt,
         b"load alone: lock, summary and spare bytes stay",
         &values,
         &other_values(),
-    );
+    )
 }
 
 // What was loaded is stored as the same 512 bytes.
-fn same_block() {
+fn same_block(rt: &impl Print) -> io::Result<()> {
     let mut values = [0x5Au8; 1024];
     let loaded = load::load(&some_block(), &mut values);
     let mut block = [0u8; 512];
     let stored = store::store(&values, &mut block);
     say(
+        rt,
         b"store: what was loaded, bit by bit",
-        loaded & stored & check::same(&block, &some_block()),
-    );
+        loaded & stored & same(&block, &some_block()),
+    )
 }
 
 // Power-up, whatever the values held: defaults, then the NV entries of the block.
-fn powers_up() {
+fn powers_up(rt: &impl Print) -> io::Result<()> {
     let mut values = [0x5Au8; 1024];
     gauge::power::fill(&mut values, &some_block());
-    compare_values(b"power-up: what the block has", &values, &some_values());
+    compare_values(rt, b"power-up: what the block has", &values, &some_values())
 }
 
-pub fn back() {
-    loads_defaults();
-    comes_back();
-    others_stay();
-    same_block();
-    powers_up();
+pub fn back(rt: &impl Print) -> io::Result<()> {
+    loads_defaults(rt)?;
+    comes_back(rt)?;
+    others_stay(rt)?;
+    same_block(rt)?;
+    powers_up(rt)
 }

@@ -1,4 +1,6 @@
 // Bytes on the wire: numbers, flags, REAL values and copied parts in lent bytes.
+#![tactic(auto)]
+
 pub mod wide;
 
 ghost use Rattle.std.specs.Prelude.{false, ◌≡◌, ◌+◌, ◌≤◌, ◌<◌, length, take, drop, replicate};

@@ -1,0 +1,7 @@
+-- `write_point` is `with_point`: six numbers, one after the other.
+use Rattle.card.proofs.Fields.{point_written}
+use Rattle.enter.proofs.write_point.Goals as goal
+
+pub returns : goal.returns
+returns c =
+    point_written c.args.values.now _ _ _ _ _ _ c.args.fields c.args.to c.put_byte.ensures c.put_byte-2.ensures c.put_word.ensures c.put_word-2.ensures c.put_word-3.ensures c.put_word-4.ensures

@@ -1,0 +1,15 @@
+-- `trip::usable`: one law for each return. Assumes nothing.
+use mathlib.Core.Path.{sym}
+use borrow.Author.Tests.{ne_eqb}
+use Rattle.trip.proofs.Pressure.{no_flag, negative, rest}
+use Rattle.trip.proofs.usable.Goals as goal
+
+pub returns-then-valid-eq0 : goal.returns-then-valid-eq0
+returns-then-valid-eq0 c = sym (no_flag c.args.p c.args.valid c.if-valid-eq0.true)
+
+pub returns : goal.returns
+returns c =
+    sym (rest c.args.p c.args.valid (ne_eqb c.args.valid 0 c.if-valid-eq0.false) c.if-p.false)
+
+pub returns-then-p : goal.returns-then-p
+returns-then-p c = sym (negative c.args.p c.args.valid c.if-p.true)
