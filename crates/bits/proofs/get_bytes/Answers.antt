@@ -8,4 +8,4 @@ use Rattle.bits.proofs.get_bytes.Goals as goal
 pub returns-then-at-eq0 : goal.returns-then-at-eq0
 returns-then-at-eq0 c =
     c.copy_at.ensures
-    ∙ ap (splice c.args.dst.now c.args.to) (get_whole_bytes c.args.s.now c.args.at c.args.n (λ k. (c.shared_slice_known-1.given k).fits) c.if-at-eq0.true (omega arith))
+    ∙ ap (splice c.args.dst.now c.args.to) (get_whole_bytes c.args.s.now c.args.at c.args.n (λ k. (c.type_inv.s k).fits) c.if-at-eq0.true (omega arith))

@@ -2,7 +2,6 @@
 use mathlib.Core.Path.{◌∙◌, sym, ap, refl}
 use native.Mathlib.Omega.{arith}
 use lib.ListN.{get_or, length-set}
-use borrow.Author.Tests.{not-true, not-false}
 use Rattle.bits.specs.Bits.{bits}
 use Rattle.block.proofs.Turns.{fields_long, cuts_long, limits_long, seen, cut_at, cut_here, room, saved-within, saved_begin, saved-on, saved_stop, saved_end, numbers_turn}
 use Rattle.block.specs.Asked.{between}
@@ -71,7 +70,7 @@ returns-then-not-is_between c =
     let g = seen c.requires.0 c.loop-i.i c.loop-i-test.true c.pair_to_usize-at.ensures.0 in
     let q = c.to_usize-cut.ensures.0 ∙ cut_at _ c.requires.1 c.loop-i.i c.loop-i-test.true in
     let s = c.is_between.ensures ∙ ap (between (get_or c.args.lows.now c.loop-i.i 0) (get_or c.args.highs.now c.loop-i.i 0)) c.rank_of-x.ensures in
-    (saved_stop g (bits c.args.block.now) (saved-within g c.requires.2 c.cut_field-v.result s (not-true c.is_between.result c.if-not-is_between.true-raw) c.args.block.now q c.cut_field-v.ensures) c.loop-i.invariant.2, c.loop-i.invariant.3)
+    (saved_stop g (bits c.args.block.now) (saved-within g c.requires.2 c.cut_field-v.result s c.if-not-is_between.true c.args.block.now q c.cut_field-v.ensures) c.loop-i.invariant.2, c.loop-i.invariant.3)
 
 pub offset_bounds-numbers-i : goal.offset_bounds-numbers-i
 offset_bounds-numbers-i c = omega arith
@@ -92,7 +91,7 @@ loop-i-preserved c =
     let s = c.is_between.ensures ∙ ap (between (get_or c.args.lows.now c.loop-i.i 0) (get_or c.args.highs.now c.loop-i.i 0)) c.rank_of-x.ensures in (
       omega arith,
       length-set c.loop-i.numbers c.loop-i.i _ ∙ c.loop-i.invariant.1,
-      saved-on g (bits c.args.block.now) (saved-within g c.requires.2 c.cut_field-v.result s (not-false c.is_between.result c.if-not-is_between.false-raw) c.args.block.now q c.cut_field-v.ensures) c.loop-i.invariant.2,
+      saved-on g (bits c.args.block.now) (saved-within g c.requires.2 c.cut_field-v.result s c.if-not-is_between.false c.args.block.now q c.cut_field-v.ensures) c.loop-i.invariant.2,
       numbers_turn g (bits c.args.block.now) c.loop-i.numbers q (omega arith) c.cut_field-v.ensures c.loop-i.invariant.3,
     )
 

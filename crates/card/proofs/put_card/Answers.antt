@@ -1,5 +1,6 @@
 -- `put_card`: 17 bytes and the 16 behind them are the card; an enable is one bit wide.
 use mathlib.Core.Path.{◌∙◌}
+use borrow.Author.Rules.{rules}
 use Rattle.table.specs.Places.{settings_1, settings_2}
 use Rattle.card.proofs.Fields.{point_enables}
 use Rattle.card.proofs.Made.{card_made}
@@ -15,7 +16,7 @@ enables-requires-2 c =
 
 pub returns : goal.returns
 returns c =
-    card_made c.args.values.now c.args.card.now _ _ _ _ _ _ (λ k. (c.shared_slice_known-1.given k).fits) (λ k. (c.slice_known-1.given k).fits) (λ k. (c.slice_known-3-1.given k).fits)
+    card_made c.args.values.now c.args.card.now _ _ _ _ _ _ (λ k. (c.type_inv.values k).fits) (λ k. search rules) (λ k. (c.type_inv.card k).fits)
     (c.put_words.auto.card ∙ c.put_first.auto.card)
     c.requires.0
     c.point_at-one.ensures

@@ -7,5 +7,5 @@ use Rattle.state.proofs.trips_at.Goals as goal
 pub returns : goal.returns
 unfolding trips_at is_set
 returns c =
-    let w = word_apart c.args.state.now 192 (λ k. (c.shared_slice_known-1.given k).fits) c.word_at-word.ensures in
+    let w = word_apart c.args.state.now 192 (λ k. (c.type_inv.state k).fits) c.word_at-word.ensures in
     rw (w.first, w.second, w.third, w.fourth)

@@ -3,7 +3,6 @@ use mathlib.Core.Path.{◌≡◌, ◌∙◌, sym, ap, refl}
 use Prim.Native.Nat.{◌*◌}
 use native.Mathlib.Omega.{arith}
 use lib.ListN.{length, get_or}
-use borrow.Author.Tests.{not-true, not-false}
 use Rattle.bits.proofs.Numbers.{length-bits}
 use Rattle.wire.proofs.LittleLaws.{Bytes}
 use Rattle.bits.specs.Bits.{bits}
@@ -69,9 +68,9 @@ pub returns-then-not-is_between : goal.returns-then-not-is_between
 returns-then-not-is_between c =
     let g = here c.requires.0 c.loop-i.i c.loop-i-test.true refl refl in
     let p = c.pair_to_usize-place.ensures.0 ∙ place_at c.args.places.now c.requires.1 c.loop-i.i c.loop-i-test.true in
-    let y : Bytes c.args.values.now = λ k. (c.shared_slice_known-6-1.given k).fits in
+    let y : Bytes c.args.values.now = λ k. (c.type_inv.values k).fits in
     let s = c.is_between.ensures ∙ ap (between (get_or c.args.lows.now c.loop-i.i 0) (get_or c.args.highs.now c.loop-i.i 0)) c.rank_of-x.ensures in
-    (held_stop g c.args.values.now (held-within g c.requires.2 c.number_by-v.result s (not-true c.is_between.result c.if-not-is_between.true-raw) c.args.values.now p y c.number_by-v.ensures) c.loop-i.invariant.2, c.loop-i.invariant.3)
+    (held_stop g c.args.values.now (held-within g c.requires.2 c.number_by-v.result s c.if-not-is_between.true c.args.values.now p y c.number_by-v.ensures) c.loop-i.invariant.2, c.loop-i.invariant.3)
 
 pub offset_bounds-ats-i : goal.offset_bounds-ats-i
 offset_bounds-ats-i c =
@@ -103,7 +102,7 @@ pub save_entry-requires : goal.save_entry-requires
 save_entry-requires c =
     let g = here c.requires.0 c.loop-i.i c.loop-i-test.true c.pair_to_usize-at.ensures.0 (end_at c.requires.0 c.loop-i.i c.loop-i-test.true c.pair_to_usize.ensures.0) in
     let p = c.pair_to_usize-place.ensures.0 ∙ place_at c.args.places.now c.requires.1 c.loop-i.i c.loop-i-test.true in
-    let y : Bytes c.args.values.now = λ k. (c.shared_slice_known-6-1.given k).fits in
+    let y : Bytes c.args.values.now = λ k. (c.type_inv.values k).fits in
     let s = c.is_between.ensures ∙ ap (between (get_or c.args.lows.now c.loop-i.i 0) (get_or c.args.highs.now c.loop-i.i 0)) c.rank_of-x.ensures in
     let n : length (bits c.args.block.now) ≡ 8 * fresh_bytes = omega (arith, length-bits c.args.block.now) in (
       sized_here g p,
@@ -112,7 +111,7 @@ save_entry-requires c =
       c.loop-i.invariant.1,
       omega (arith, room g),
       c.number_by-v.ensures,
-      fits_here g p c.args.values.now c.requires.3 y (held-within g c.requires.2 c.number_by-v.result s (not-false c.is_between.result c.if-not-is_between.false-raw) c.args.values.now p y c.number_by-v.ensures) c.number_by-v.ensures,
+      fits_here g p c.args.values.now c.requires.3 y (held-within g c.requires.2 c.number_by-v.result s c.if-not-is_between.false c.args.values.now p y c.number_by-v.ensures) c.number_by-v.ensures,
       zero_here g p c.args.values.now c.requires.3 (bits c.args.block.now) n c.requires.5 c.loop-i.invariant.3,
     )
 
@@ -126,12 +125,12 @@ pub loop-i-preserved : goal.loop-i-preserved
 loop-i-preserved c =
     let g = here c.requires.0 c.loop-i.i c.loop-i-test.true c.pair_to_usize-at.ensures.0 (end_at c.requires.0 c.loop-i.i c.loop-i-test.true c.pair_to_usize.ensures.0) in
     let p = c.pair_to_usize-place.ensures.0 ∙ place_at c.args.places.now c.requires.1 c.loop-i.i c.loop-i-test.true in
-    let y : Bytes c.args.values.now = λ k. (c.shared_slice_known-6-1.given k).fits in
+    let y : Bytes c.args.values.now = λ k. (c.type_inv.values k).fits in
     let s = c.is_between.ensures ∙ ap (between (get_or c.args.lows.now c.loop-i.i 0) (get_or c.args.highs.now c.loop-i.i 0)) c.rank_of-x.ensures in
     let n : length (bits c.args.block.now) ≡ 8 * fresh_bytes = omega (arith, length-bits c.args.block.now) in (
       omega arith,
       c.save_entry.auto.block ∙ c.loop-i.invariant.1,
-      held_on g c.args.values.now (held-within g c.requires.2 c.number_by-v.result s (not-false c.is_between.result c.if-not-is_between.false-raw) c.args.values.now p y c.number_by-v.ensures) c.loop-i.invariant.2,
+      held_on g c.args.values.now (held-within g c.requires.2 c.number_by-v.result s c.if-not-is_between.false c.args.values.now p y c.number_by-v.ensures) c.loop-i.invariant.2,
       save_turn g p c.args.values.now c.requires.3 (bits c.args.block.now) n c.loop-i.invariant.3 c.save_entry.ensures,
     )
 

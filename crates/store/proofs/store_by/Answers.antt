@@ -10,4 +10,4 @@ returns-then-n-lt-NV_ROWS c =
 
 pub returns : goal.returns
 returns c =
-    store-done c.args.values.now c.args.block.now c.requires.3.1 c.fill_block-n.ensures.0 (omega arith) c.requires.3.0 _ c.fill_block-n.ensures.1 c.write_block.ensures (λ k. (c.slice_known-2-1.given k).fits) (c.write_block.auto.block ∙ c.requires.4)
+    store-done c.args.values.now c.args.block.now c.requires.3.1 c.fill_block-n.ensures.0 (omega arith) c.requires.3.0 _ c.fill_block-n.ensures.1 c.write_block.ensures (λ k. (c.type_inv.block k).fits) (c.write_block.auto.block ∙ c.requires.4)

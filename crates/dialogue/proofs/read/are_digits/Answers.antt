@@ -2,7 +2,6 @@
 use mathlib.Core.Path.{refl, sym, ap, ◌∙◌}
 use native.Mathlib.Omega.{arith}
 use lib.ListN.{drop_of_length-le}
-use borrow.Author.Tests.{not-true, not-false}
 use Rattle.dialogue.proofs.TextLaws.{digits_turn}
 use Rattle.dialogue.specs.Text.{all_digits}
 use Rattle.dialogue.proofs.read.are_digits.Goals as goal
@@ -17,7 +16,7 @@ pub is_a_digit-requires : goal.is_a_digit-requires
 is_a_digit-requires c = omega arith
 
 pub returns-then-not-is_a_digit : goal.returns-then-not-is_a_digit
-returns-then-not-is_a_digit c = sym (rw (not-true c.is_a_digit.result c.if-not-is_a_digit.true-raw) at (digits_turn c.args.text.now c.loop-i.i c.is_a_digit.result c.loop-i-test.true c.is_a_digit.ensures)) ∙ c.loop-i.invariant.1
+returns-then-not-is_a_digit c = sym (rw c.if-not-is_a_digit.true at (digits_turn c.args.text.now c.loop-i.i c.is_a_digit.result c.loop-i-test.true c.is_a_digit.ensures)) ∙ c.loop-i.invariant.1
 
 pub overflow_add-i : goal.overflow_add-i
 overflow_add-i c = omega arith
@@ -26,7 +25,7 @@ pub loop-i-smaller : goal.loop-i-smaller
 loop-i-smaller c = omega arith
 
 pub loop-i-preserved : goal.loop-i-preserved
-loop-i-preserved c = (omega arith, sym (rw (not-false c.is_a_digit.result c.if-not-is_a_digit.false-raw) at (digits_turn c.args.text.now c.loop-i.i c.is_a_digit.result c.loop-i-test.true c.is_a_digit.ensures)) ∙ c.loop-i.invariant.1)
+loop-i-preserved c = (omega arith, sym (rw c.if-not-is_a_digit.false at (digits_turn c.args.text.now c.loop-i.i c.is_a_digit.result c.loop-i-test.true c.is_a_digit.ensures)) ∙ c.loop-i.invariant.1)
 
 pub returns : goal.returns
 unfolding all_digits
