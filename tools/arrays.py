@@ -21,7 +21,7 @@ import lowered
 import x86
 
 # the crates that have neither in their hands
-ELSEWHERE = ("find", "entry", "trip", "sample", "gate", "command", "sdo", "dialogue")
+ELSEWHERE = ("table", "find", "entry", "trip", "sample", "gate", "command", "sdo", "dialogue")
 LEAST, SLICE = 2, (16, 8)
 # all that the library does
 CALLS = """fn main() {
@@ -59,32 +59,33 @@ def meant(root):
     trips = {(4, 1): "all trips"}
     transfer = value | key | {(104, 8): "a transfer, with its value"}
     answer = {(8, 1): "an answer"}
-    gate = {(24, 8): "the row that a key leads to"}
-    ending = {(8, 4): "how a write ends"}
+    row = {(24, 8): "a row, if there is one"}
+    verdict = {(2, 1): "a verdict, or how a write ends"}
+    bounds = {(12, 4): "two limits"}
     said = {(24, 8): "what a message says"}
     reader = {(24, 8): "what is left of a datagram"}
     head = {(8, 2): "a mailbox's head"}
     mail = {(10, 2): "what a mailbox is"}
     return {
-        "wire": {},
+        "wire": {(2, 1): "two bytes of a number", (4, 1): "four bytes of a number, or flags"},
         "bits": {},
-        "limits": {(8, 4): "two limits"},
+        "limits": verdict | {(8, 4): "two limits"},
         "crossed": {},
         "card": fields | value,
-        "enter": fields,
-        "block": {},
+        "enter": fields | verdict,
+        "block": bounds,
         "load": {(4 * rows, 4): "a number for each NV entry"},
-        "store": {((end + 7) // 8 + 8, 1): "the bytes of a block"},
-        "gauge": value | ending,
-        "transfer": transfer,
+        "store": bounds | {((end + 7) // 8 + 8, 1): "the bytes of a block"},
+        "gauge": value | verdict,
+        "transfer": transfer | row,
         "state": transfer | trips | {(2, 1): "a point's trips", (record, 1): "the bytes of a record"},
-        "line": transfer | answer | gate | ending,
+        "line": transfer | answer | row | verdict,
         "reader": reader,
         "mailbox": head | mail | reader,
-        "outbox": transfer | answer | gate,
-        "inbox": transfer | answer | gate | ending,
+        "outbox": transfer | answer | row,
+        "inbox": transfer | answer | row | verdict | {(8, 4): "a length, if one is announced", (8, 8): "a count that a closure has"},
         "post": answer | said | head | key,
-        "board": said | head | mail | trips | {(32, 8): "what is heard"},
+        "board": said | head | mail | trips | {(32, 8): "what is heard", (2, 1): "how a call ends"},
     }
 
 
@@ -94,7 +95,7 @@ def kept(root):
         main = os.path.join(folder, "main.rt")
         with open(main, "w", encoding="utf-8") as file:
             file.write(CALLS)
-        text, _ = lowered.lowered(root, "calls", main, ["core"])
+        text, _ = lowered.lowered(root, "calls", main, ["core", "std"])
     inside = ""
     for line in text.split("\n"):
         begun = re.match(r'define [^@]*@"?([\w:]+)', line)

@@ -6,8 +6,9 @@
 A `pub` name of crates/*/specs or crates/*/proofs is cited where another definition of its file, or a file that imports it, has it; the
 answer to a goal has the goal's name, and the check cites it; a theorem that stands for itself is listed by name, between backticks, in
 docs/PROMISES.md or docs/THEOREM.md. What is none of these is dead. So is a law without `pub` that its file does not use, a function or a
-constant of crates/*/src that no code uses, and an imported name that its file does not have. A name listed among the theorems of
-docs/PROMISES.md that no file defines is an error too. One line each: crate, file, name; exits 1 if there is any.
+constant of crates/*/src that no code uses, and an imported name that its file does not have; a trait is had where one of its functions
+is. What `#[tactic(..)]` names for a function's proof is cited there. A name listed among the theorems of docs/PROMISES.md that no file
+defines is an error too. One line each: crate, file, name; exits 1 if there is any.
 """
 import pathlib
 import re
@@ -17,10 +18,13 @@ ROOT = pathlib.Path(__file__).resolve().parent.parent
 LISTS = ("docs/PROMISES.md", "docs/THEOREM.md")
 THEOREMS = "## Theorems over the definitions"
 NAME = r"[^\s(){}\[\],;.:]+"
-DEFINED = re.compile(rf"^ *((?:(?:unfoldable|abbrev|opaque) )*)(pub )?(data |record )?({NAME})(?= )")
+DEFINED = re.compile(rf"^ *((?:(?:unfoldable|abbrev|opaque) )*)(pub )?(data |record |ruleset )?({NAME})(?= )")
 IMPORT = re.compile(r"^(?:ghost )?(?:pub )?use ([^{;\s]+?)(?:\.\{([^}]*)\})?(?: as (\S+?))?;?$")
 ANSWER = re.compile(rf"^(?:abbrev )?pub ({NAME}) : \w+\.\1$")
 ITEM = re.compile(r"^ *(?:pub )?(?:const|fn) (\w+)")
+# a law or a definition that a function names for its proof, as crate::proofs::Hearing::kept_more
+NAMED = re.compile(r"\b(\w+)::((?:proofs|specs)(?:::\w+)+)::(\w+)")
+TRAIT = re.compile(r"pub trait (\w+)[^{]*\{(.*?)^\}", re.M | re.S)
 KEYWORDS = {"use", "mod", "pub", "module", "where", "unfolding", "let", "instance", "infixl", "infixr", "infix"}
 
 
@@ -117,6 +121,9 @@ def importers(files):
     for file in files:
         for _, module, there, here in file.imports:
             found.setdefault(module, []).append((file, there, here))
+        for crate, inside, name in NAMED.findall("\n".join(file.lines)) if file.path.suffix == ".rt" else ():
+            module = ".".join(["Rattle", file.crate if crate == "crate" else crate, *inside.split("::")])
+            found.setdefault(module, []).append((file, name, name))
     return found
 
 
@@ -157,10 +164,21 @@ def dead_code(files):
                 yield file, at, f"{match[1]}: no code uses it"
 
 
+def traits(files):
+    """The functions of each trait."""
+    found = {}
+    for file in files:
+        for name, body in TRAIT.findall("\n".join(file.lines)) if file.path.suffix == ".rt" else ():
+            found[name] = re.findall(r"\bfn (\w+)", body)
+    return found
+
+
 def dead_imports(files):
+    functions = traits(files)
     for file in files:
         for at, module, there, here in file.imports:
-            if not file.used(here, ()):
+            trait = functions.get(here, ()) if file.path.suffix == ".rt" else ()
+            if not any(file.used(name, ()) for name in (here, *trait)):
                 yield file, at, f"{there or module}: imported and not used"
 
 

@@ -6,11 +6,13 @@ use native.Mathlib.Nat.{one-mul, lt_of_lt_of_le, div-mul-le_self, mod-eq_of_lt, 
 use native.Mathlib.Omega.{arith}
 use lib.Arith.{digits_lt}
 use lib.Dec.{lit<}
-use lib.ListN.{length, get_or, set}
+use Rattle.std.proofs.lemmas.List.{get_or-drop, get_or-take}
+use lib.ListN.{length, take, drop, get_or, set}
 use lib.Pow.{pow_pos, pow-add, pow_mono, shl_exact, shl-shr, shr-shr, shr_lt, low, field as pow-field}
 use Rattle.bits.proofs.Numbers.{length-bits, length-msb, msb_split}
 use Rattle.bits.proofs.Parts.{low_lt, field_lt, field_more, field_cut, splice-merged, byte_get, byte_put, in_byte}
 use Rattle.bits.specs.Bits.{msb, bits, field, merged}
+use Rattle.wire.proofs.LittleLaws.{Bytes}
 use Rattle.wire.proofs.SpliceLaws.{splice_front}
 use Rattle.wire.specs.Splice.{splice}
 
@@ -39,13 +41,14 @@ module _ (x n e v : ℕ) (hx : x < 2 ^ 40) (h : n + e ≤ 40) (hv : v < 2 ^ n) w
   merged_shifted = rw (high-kept, low_part)
 
 -- one byte more of a window, and that it fits
-pub window_turn : (s : List ℕ) (first i acc x : ℕ) → first ≤ i → i < length s → acc ≡ field (bits s) (8 * first) (8 * (i - first)) → x ≡ get_or s i 0 → x < 256
-    → acc * 256 + x ≡ field (bits s) (8 * first) (8 * (i + 1 - first))
-window_turn s first i acc x h g p q b =
-    let w : 8 * (i + 1 - first) ≡ 8 * (i - first) + 8 = omega arith in
-    let k : 8 * first + 8 * (i - first) ≡ 8 * i = omega arith in
-    let y : field (bits s) (8 * i) 8 ≡ x = byte_get s i g (omega arith) ∙ sym q in
-    sym (rw w (field_more (bits s) (8 * first) (8 * (i - first)) 8 (omega (arith, length-bits s)) ∙ rw (k, y, p)))
+pub window_turn : (s : List ℕ) (first k n acc x : ℕ) → Bytes s → n < k → first + k ≤ length s → acc ≡ field (bits s) (8 * first) (8 * n) → x ≡ get_or (take k (drop first s)) n 0
+    → acc * 256 + x ≡ field (bits s) (8 * first) (8 * (n + 1))
+window_turn s first k n acc x b h g p q =
+    let w : 8 * (n + 1) ≡ 8 * n + 8 = omega arith in
+    let j : 8 * first + 8 * n ≡ 8 * (first + n) = omega arith in
+    let e : x ≡ get_or s (first + n) 0 = q ∙ get_or-take k (drop first s) n 0 h ∙ get_or-drop first s n 0 in
+    let y : field (bits s) (8 * (first + n)) 8 ≡ x = byte_get s (first + n) (omega arith) (b (first + n)) ∙ sym e in
+    sym (rw w (field_more (bits s) (8 * first) (8 * n) 8 (omega (arith, length-bits s)) ∙ rw (j, y, p)))
 
 -- one byte more of a number that is spread
 pub spread_turn : (s : List ℕ) (first i rest : ℕ) → first < i → i ≤ length s

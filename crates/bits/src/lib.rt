@@ -1,11 +1,11 @@
 // Fields of bits on packed bytes, most significant bit first: bit k is bit 7 - k % 8 of byte k / 8.
 #![tactic(auto)]
 
-ghost use Rattle.std.specs.Prelude.{◌≡◌, ◌+◌, ◌-◌, ◌*◌, ◌/◌, ◌%◌, ◌^◌, ◌≤◌, ◌<◌, length, take, drop};
+ghost use Rattle.std.specs.Prelude.{◌≡◌, ◌+◌, ◌-◌, ◌*◌, ◌/◌, ◌%◌, ◌^◌, ◌≤◌, ◌<◌, length, drop};
 ghost use Rattle.wire.specs.Splice.{splice};
 ghost use Rattle.bits.specs.Bits.{bits, field, msb, packed, merged};
 
-use wire::wide;
+use wire::Number;
 
 // ---- A field: cut out of the bytes that it touches, at most five.
 
@@ -15,10 +15,8 @@ fn window(s: &[u8], first: usize, last: usize) -> u64
     ensures { result ≡ field (bits s.now) (8 * first) (8 * (last - first)) }
 {
     let mut acc: u64 = 0;
-    let mut i = first;
-    while i < last {
-        acc = acc * 256 + wide::to_u64(s[i]);
-        i += 1;
+    for byte in &s[first..last] {
+        acc = acc * 256 + u64::from(*byte);
     }
     acc
 }
@@ -49,9 +47,7 @@ fn spread(s: &mut [u8], first: usize, last: usize, v: u64)
     ensures { bits s.new ≡ splice (bits s.old) (8 * first) (msb (8 * (last - first)) v) }
 {
     let mut rest = v;
-    let mut i = last;
-    while first < i {
-        i -= 1;
+    for i in (first..last).rev() {
         s[i] = (rest % 256) as u8;
         rest /= 256;
     }
@@ -66,8 +62,7 @@ pub fn put_field(s: &mut [u8], at: usize, width: usize, value: u32)
     let last = (at + width + 7) / 8;
     let low = 8 * last - at - width;
     let v = window(s, first, last);
-    let wide = value as u64;
-    spread(s, first, last, merge(v, width, low, wide));
+    spread(s, first, last, merge(v, width, low, u64::from(value)));
 }
 
 // ---- A field with eight bytes of room: a window of one length has no loop left when it is compiled.
@@ -89,59 +84,46 @@ pub fn add_field(s: &mut [u8], at: usize, width: usize, value: u32)
 {
     let first = at / 8;
     let x = window(s, first, first + 8);
-    let shifted = wide::word_to_u64(value) << (64 - at % 8 - width);
+    let shifted = u64::from(value) << (64 - at % 8 - width);
     spread(s, first, first + 8, x + shifted);
 }
 
 // ---- A field of four whole bytes: the little-endian word of them, turned.
 
-// The four bytes of a word in the other order.
-fn turned(v: u32) -> u32
-    ensures { result ≡ v % 256 * 16777216 + v / 256 % 256 * 65536 + v / 65536 % 256 * 256 + v / 16777216 }
-{
-    v % 256 * 16777216 + v / 256 % 256 * 65536 + v / 65536 % 256 * 256 + v / 16777216
-}
-
 pub fn word_at(s: &[u8], at: usize) -> u32
     requires { at + 4 ≤ length s.now }
     ensures { result ≡ field (bits s.now) (8 * at) 32 }
 {
-    turned(wire::word_at(s, at))
+    u32::at(s, at).swap_bytes()
 }
 
 pub fn put_word(s: &mut [u8], at: usize, v: u32)
     requires { at + 4 ≤ length s.old }
     ensures { bits s.new ≡ splice (bits s.old) (8 * at) (msb 32 v) }
 {
-    wire::put_word(s, at, turned(v));
+    v.swap_bytes().put(s, at);
 }
 
 // ---- Bytes at any bit: copied where that is a whole byte's first, else byte by byte.
 
-fn put_across(s: &mut [u8], at: usize, src: &[u8], from: usize, n: usize)
-    requires { (from + n ≤ length src.now) × (at + 8 * n ≤ 8 * length s.old) × (at + 8 * n ≤ 4096) }
-    ensures { bits s.new ≡ splice (bits s.old) at (bits (take n (drop from src.now))) }
+fn put_across(s: &mut [u8], at: usize, bytes: &[u8])
+    requires { (at + 8 * length bytes.now ≤ 8 * length s.old) × (at + 8 * length bytes.now ≤ 4096) }
+    ensures { bits s.new ≡ splice (bits s.old) at (bits bytes.now) }
 {
-    let mut q = from;
-    let mut left = n;
-    let mut a = at;
-    while 0 < left {
-        put_field(s, a, 8, wide::to_u32(src[q]));
-        q += 1;
-        left -= 1;
-        a += 8;
+    for (i, byte) in bytes.iter().enumerate() {
+        put_field(s, at + 8 * i, 8, u32::from(*byte));
     }
 }
 
-// The n bytes of src from a place on, as the bits from bit at on.
-pub fn put_bytes(s: &mut [u8], at: usize, src: &[u8], from: usize, n: usize)
-    requires { (from + n ≤ length src.now) × (at + 8 * n ≤ 8 * length s.old) × (at + 8 * n ≤ 4096) }
-    ensures { bits s.new ≡ splice (bits s.old) at (bits (take n (drop from src.now))) }
+// Bytes as the bits from bit at on.
+pub fn put_bytes(s: &mut [u8], at: usize, bytes: &[u8])
+    requires { (at + 8 * length bytes.now ≤ 8 * length s.old) × (at + 8 * length bytes.now ≤ 4096) }
+    ensures { bits s.new ≡ splice (bits s.old) at (bits bytes.now) }
 {
     if at % 8 == 0 {
-        wire::copy_at(s, at / 8, src, from, n);
+        wire::copy_at(s, at / 8, bytes);
     } else {
-        put_across(s, at, src, from, n);
+        put_across(s, at, bytes);
     }
 }
 
@@ -149,14 +131,8 @@ fn get_across(dst: &mut [u8], to: usize, n: usize, s: &[u8], at: usize)
     requires { (to + n ≤ length dst.old) × (at + 8 * n ≤ 8 * length s.now) × (at + 8 * n ≤ 4096) }
     ensures { dst.new ≡ splice dst.old to (packed n (drop at (bits s.now))) }
 {
-    let mut q = to;
-    let mut left = n;
-    let mut a = at;
-    while 0 < left {
-        dst[q] = get_field(s, a, 8) as u8;
-        q += 1;
-        left -= 1;
-        a += 8;
+    for (i, byte) in dst[to..to + n].iter_mut().enumerate() {
+        *byte = get_field(s, at + 8 * i, 8) as u8;
     }
 }
 
@@ -166,7 +142,7 @@ pub fn get_bytes(dst: &mut [u8], to: usize, n: usize, s: &[u8], at: usize)
     ensures { dst.new ≡ splice dst.old to (packed n (drop at (bits s.now))) }
 {
     if at % 8 == 0 {
-        wire::copy_at(dst, to, s, at / 8, n);
+        wire::copy_at(dst, to, &s[at / 8..at / 8 + n]);
     } else {
         get_across(dst, to, n, s, at);
     }

@@ -6,6 +6,7 @@ use mathlib.Core.Path.{◌≡◌, refl, sym, ap, ◌∙◌}
 use Prim.Native.Nat.{ℕ, ◌+◌, ◌*◌, ◌/◌, ◌^◌, ◌≤◌, ◌<◌}
 use native.Mathlib.Nat.{lt_of_lt_of_le}
 use native.Mathlib.Omega.{arith}
+use Rattle.std.specs.Prelude.{Ok, Err}
 use lib.Dec.{eqb}
 use lib.ListN.{length, take, drop}
 use lib.Pow.{pow_mono}
@@ -17,9 +18,8 @@ use Rattle.bits.specs.Bits.{msb, bits, num, field, packed, Small}
 use Rattle.block.specs.Asked.{Sized, entry_len}
 use Rattle.block.specs.Block.{width, entry_bits, entry_bytes, within}
 use Rattle.limits.proofs.RowVerdicts.{no_number, bool_within}
-use Rattle.limits.specs.Limits.{number_len, verdict_code}
-use Rattle.limits.specs.declared.Verdict.{Verdict}
-use Rattle.limits.specs.declared.Verdict.TheVariants.{Within, NotANumber, Above, Below}
+use Rattle.limits.specs.Limits.{Verdict, within as none_wrong, number_len, verdict_code}
+use Rattle.limits.specs.declared.Outside.TheVariants.{NotANumber, Above, Below}
 use Rattle.table.proofs.Walks.{lt_or_ge}
 use Rattle.table.specs.Row.{Row, BOOL, REAL}
 use Rattle.wire.proofs.LittleLaws.{Bytes, length-little, from_little-little, little-from, number_lt}
@@ -131,12 +131,12 @@ back_entry kind len bs sm room some =
 
 -- ---- its limits
 
-pub no_code : (x : Verdict) → eqb (verdict_code x) 0 ≡ true → x ≡ Within
+pub no_code : (x : Verdict) → eqb (verdict_code x) 0 ≡ true → x ≡ none_wrong
 unfolding verdict_code
-no_code Within e = refl
-no_code NotANumber e = absurd (let z : ◌≡◌ {A = ℕ} 0 1 = cc in omega arith)
-no_code Above e = absurd (let z : ◌≡◌ {A = ℕ} 0 1 = cc in omega arith)
-no_code Below e = absurd (let z : ◌≡◌ {A = ℕ} 0 1 = cc in omega arith)
+no_code (Ok u) e = refl
+no_code (Err NotANumber) e = absurd cc
+no_code (Err Above) e = absurd cc
+no_code (Err Below) e = absurd cc
 
 pub within_string : (r : Row) (v : ℕ) → REAL < r.kind → true ≡ within r v
 unfolding within verdict_code

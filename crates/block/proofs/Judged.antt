@@ -6,6 +6,11 @@ use mathlib.Core.Path.{◌≡◌, refl, sym, ap, ◌∙◌}
 use Prim.Native.Nat.{ℕ, ◌≤◌, ◌<◌}
 use native.Mathlib.Omega.{arith}
 use lib.Dec.{eqb, leb}
+use Rattle.std.specs.Prelude.{Some}
+use Rattle.std.specs.Ordering.{nat_cmp, partial_le}
+use Rattle.std.specs.declared.ops.RangeInclusive.{RangeInclusive}
+use Rattle.std.specs.Range.{range_inclusive_start, range_inclusive_end, range_inclusive_exhausted, range_inclusive_contains}
+use borrow.Author.Rules.{rules}
 use borrow.Author.Tests.{ne_eqb, le-leb, lt-leb}
 use Rattle.bits.proofs.Parts.{field_fits}
 use Rattle.wire.proofs.LittleLaws.{Bytes}
@@ -16,8 +21,7 @@ use Rattle.block.specs.Asked.{cut, lowest, highest, between}
 use Rattle.block.specs.Block.{row_width, within}
 use Rattle.limits.proofs.NumberLaws.{len-most}
 use Rattle.limits.proofs.RowVerdicts.{ranked_within, within_ranked}
-use Rattle.limits.specs.Limits.{number_len, verdict_code}
-use Rattle.limits.specs.declared.Verdict.{Verdict}
+use Rattle.limits.specs.Limits.{Verdict, number_len, verdict_code}
 use Rattle.table.proofs.Rules.{RowRule}
 use Rattle.table.proofs.Walks.{lt_or_ge}
 use Rattle.table.specs.Row.{Row, REAL}
@@ -92,13 +96,15 @@ module _ (r : Row) (k : Kept r) where
       (λ h. rw (le-leb r.kind REAL h) (judged r k.rule (field (bits block) at (row_width r)) (f (row_width r) (omega (arith, width-most r.kind r.len k.sized.some, k.sized.short h))) h))
       (λ h. rw (lt-leb r.kind REAL h) (string_judged h (field (bits block) at 32) _ (f 32 (omega arith))))
 
--- ---- the tests of the code
+-- ---- the test of the code
 
-module _ (low high x : ℕ) where
-  pub between-low : x < low → false ≡ between low high x
-  unfolding between
-  between-low h = sym (rw (lt-leb low x h))
+at_most : (a b : ℕ) → partial_le (λ x y. Some (nat_cmp x y)) a b ≡ leb a b
+at_most a b = search rules
 
-  pub between-high : low ≤ x → leb x high ≡ between low high x
-  unfolding between
-  between-high h = sym (rw (le-leb low x h))
+-- a range is asked whether it holds a number's place
+pub held-between : (range : RangeInclusive ℕ) (low high kind v : ℕ) {x : ℕ} {answer : Bool}
+    → range_inclusive_start range ≡ low → range_inclusive_end range ≡ high → range_inclusive_exhausted range ≡ false
+    → x ≡ rank kind v → answer ≡ range_inclusive_contains (λ x y. Some (nat_cmp x y)) range x → answer ≡ between low high (rank kind v)
+unfolding between
+held-between range low high kind v s e o is says =
+    says ∙ rw (s, e, o, is, at_most low (rank kind v), at_most (rank kind v) high)

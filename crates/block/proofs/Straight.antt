@@ -6,13 +6,11 @@ use Prim.Native.Nat.{ℕ, ◌+◌, ◌*◌, ◌≤◌, ◌<◌}
 use native.Mathlib.Omega.{arith}
 use lib.Dec.{lit<, lit≤}
 use lib.ListN.{length, get_or, replicate}
-use lib.Seq.{take_all}
 use Rattle.bits.proofs.Numbers.{length-bits, small_bits}
 use Rattle.bits.specs.Bits.{bits, Small}
 use Rattle.block.proofs.RoundTrips.{Shows, load_shows, shown-number}
 use Rattle.block.proofs.Turns.{nv_keep, nv_rise, nv-length, used, at-nv}
-use Rattle.block.proofs.Walking.{length_numbers}
-use Rattle.block.specs.Asked.{saved_numbers, Front, crossed_by, straight_by}
+use Rattle.block.specs.Asked.{saved_numbers, crossed_by, straight_by}
 use Rattle.block.specs.Block.{BAG552, nv_rows, load_rows, good}
 use Rattle.block.specs.Saved.{saved_rows, loadable, leaves_straight}
 use Rattle.crossed.proofs.CrossedLaws.{numbers_are}
@@ -66,12 +64,8 @@ module _ (block : List ℕ) (lb : length block ≡ 512) (values : List ℕ) (n :
   bits_long = length-bits block ∙ ap (λ (k : ℕ). 8 * k) lb
 
   -- the numbers that are known of all entries
-  pub straight_known : (numbers : List ℕ) (front : ℕ) → Front (bits block) numbers front → nv_count ≤ front → length numbers ≡ nv_count
-      → straight_by numbers ≡ leaves_straight block values
-  straight_known numbers front known all long =
-      let all_known : numbers ≡ saved_numbers (bits block) 8 saved_rows =
-      sym (take_all front numbers (omega arith)) ∙ known ∙ take_all front (saved_numbers (bits block) 8 saved_rows) (omega (arith, length_numbers (bits block) 8 saved_rows, nv-length)) in
-      ap straight_by all_known ∙ straight-after (bits block) (small_bits block) bits_long values n
+  pub straight_known : {numbers : List ℕ} → numbers ≡ saved_numbers (bits block) 8 saved_rows → straight_by numbers ≡ leaves_straight block values
+  straight_known known = ap straight_by known ∙ straight-after (bits block) (small_bits block) bits_long values n
 
   -- over any values it is the same
   pub loadable-over : loadable block ≡ (good BAG552 (bits block) saved_rows && leaves_straight block values)

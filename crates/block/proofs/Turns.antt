@@ -1,15 +1,14 @@
 -- The turns of the walks over the NV rows. Assumes nothing.
 use mathlib.Core.Bool.{Bool, true, false}
 use mathlib.Core.List.{List, [], ◌∷◌, ◌++◌, map}
-use mathlib.Core.Logic.{⊎_elim}
 use mathlib.Core.Path.{◌≡◌, refl, sym, ap, ◌∙◌}
 use Prim.Native.Nat.{ℕ, zero, suc, ◌+◌, ◌-◌, ◌*◌, ◌^◌, ◌≤◌, ◌<◌}
 use native.Mathlib.Nat.{not-suc-le-zero, le_of_suc-le-suc, add-zero}
 use native.Mathlib.Numerals.{add-one}
 use native.Mathlib.Omega.{arith}
 use lib.Dec.{leb, leb→le}
-use lib.ListN.{length, take, drop, get_or, set, length-map, drop_of_length-le}
-use lib.Seq.{take-suc, take-suc-set, get_or-take}
+use lib.ListN.{length, take, drop, get_or, set, drop_of_length-le}
+use lib.Seq.{take_all, take-suc, take-suc-set}
 use Rattle.wire.proofs.LittleLaws.{Bytes}
 use Rattle.bits.specs.Bits.{bits, field}
 use Rattle.block.proofs.Entries.{length_entry}
@@ -17,14 +16,14 @@ use Rattle.block.proofs.Judged.{held-judged, cut_is, cut_fits, saved-judged}
 use Rattle.block.proofs.Kept.{Kept, kept}
 use Rattle.block.proofs.RoundTrips.{Rising}
 use Rattle.block.proofs.Tables.{table_keeps, table_rises, table_used}
-use Rattle.block.proofs.Walking.{Keeps, keeps_at, keeps_take, fits, part_long, length-saved, length-starts, length_numbers, widths-next, widths-all, saved-next, load_next, number_here, held_next, saved_front-next, start_here, start-next}
+use Rattle.block.proofs.Walking.{Keeps, keeps_at, keeps_take, fits, part_long, length-saved, length_numbers, widths-next, widths-all, saved-next, load_next, number_here, held_next, saved_front-next, start_here, start-next}
 use Rattle.block.proofs.Zeros.{zero_behind}
-use Rattle.block.specs.Asked.{Fields, cut, Cuts, Places, lowest, highest, Limits, Sized, fresh_bytes, entry_len, between, held_front, saved_front, saved_numbers, Front}
+use Rattle.block.specs.Asked.{starts, cut, lowest, highest, Sized, fresh_bytes, entry_len, between, held_front, saved_front, saved_numbers, Front}
 use Rattle.block.specs.Block.{width, row_width, part, entry_bits, entry_bytes, within, nv_rows, widths, saved, load_rows, all_zero}
 use Rattle.block.specs.Saved.{saved_rows}
 use Rattle.limits.specs.Limits.{number_len}
 use Rattle.table.proofs.Table.{rows_pass, row_rule}
-use Rattle.table.proofs.Walks.{lt_or_ge, every-at}
+use Rattle.table.proofs.Walks.{every-at}
 use Rattle.table.specs.Row.{Row, no_row, REAL}
 use Rattle.table.specs.Rows.{rows, row_count, at_row, nv_count, nv_end}
 use Rattle.table.specs.Rule.{rank}
@@ -71,40 +70,33 @@ map_at f [] i h = absurd (not-suc-le-zero h)
 map_at f (r ∷ rs) zero h = refl
 map_at f (r ∷ rs) (suc i) h = map_at f rs i (le_of_suc-le-suc h)
 
-module _ (f : Row → ℕ) (l : List ℕ) (are : l ≡ map f saved_rows) where
-  column_long : length l ≡ nv_count
-  column_long = ap length are ∙ length-map saved_rows f ∙ nv-length
+-- the columns that the code reads
+abbrev pub kinds : List ℕ
+kinds = map (λ (r : Row). r.kind) saved_rows
 
-  column-at : (i : ℕ) → i < nv_count → get_or l i 0 ≡ f (at-nv i)
-  column-at i h = ap (λ (x : List ℕ). get_or x i 0) are ∙ map_at f saved_rows i (omega (arith, nv-length))
+abbrev pub ats : List ℕ
+ats = starts 8 saved_rows
 
-pub fields_long : {kinds ats : List ℕ} → Fields kinds ats → (length kinds ≡ nv_count) × (length ats ≡ nv_count + 1)
-fields_long {kinds} {ats} lent =
-    (column_long (λ (r : Row). r.kind) kinds lent.kinds_are, ap length lent.ats_are ∙ length-starts 8 saved_rows ∙ ap suc nv-length)
+abbrev pub cuts : List ℕ
+cuts = map cut saved_rows
 
-pub places_long : (places : List ℕ) → Places places → length places ≡ nv_count
-places_long places are = column_long (λ (r : Row). r.place) places are
+abbrev pub places : List ℕ
+places = map (λ (r : Row). r.place) saved_rows
 
-pub limits_long : (lows highs : List ℕ) → Limits lows highs → (length lows ≡ nv_count) × (length highs ≡ nv_count)
-limits_long lows highs lent =
-    (column_long lowest lows lent.lows_are, column_long highest highs lent.highs_are)
+abbrev pub lows : List ℕ
+lows = map lowest saved_rows
 
-pub cuts_long : (cuts : List ℕ) → Cuts cuts → length cuts ≡ nv_count
-cuts_long cuts are = column_long cut cuts are
+abbrev pub highs : List ℕ
+highs = map highest saved_rows
 
-pub cut_at : (cuts : List ℕ) → Cuts cuts → (i : ℕ) → i < nv_count → get_or cuts i 0 ≡ cut (at-nv i)
-cut_at cuts are i h = column-at cut cuts are i h
+column-at : (f : Row → ℕ) (i : ℕ) → i < nv_count → get_or (map f saved_rows) i 0 ≡ f (at-nv i)
+column-at f i h = map_at f saved_rows i (omega (arith, nv-length))
 
-pub place_at : (places : List ℕ) → Places places → (i : ℕ) → i < nv_count → get_or places i 0 ≡ (at-nv i).place
-place_at places are i h = column-at (λ (r : Row). r.place) places are i h
+pub cut_at : (i : ℕ) → i < nv_count → get_or cuts i 0 ≡ cut (at-nv i)
+cut_at i h = column-at cut i h
 
-shifted : (l : List ℕ) (i : ℕ) → get_or (drop {A = ℕ} 1 l) i 0 ≡ get_or l (i + 1) 0
-shifted [] i = refl
-shifted (x ∷ l) i = rw (add-one i)
-
--- where an entry ends the next one begins
-pub end_at : {kinds ats : List ℕ} → Fields kinds ats → (i : ℕ) → i < nv_count → {end : ℕ} → end ≡ get_or (take (length ats - 1) (drop 1 ats)) i 0 → end ≡ get_or ats (i + 1) 0
-end_at {kinds} {ats} lent i h e = e ∙ get_or-take (length ats - 1) (drop 1 ats) i 0 (omega (arith, fields_long lent)) ∙ shifted ats i
+pub place_at : (i : ℕ) → i < nv_count → get_or places i 0 ≡ (at-nv i).place
+place_at i h = column-at (λ (r : Row). r.place) i h
 
 -- ---- an entry that a walk has reached
 
@@ -114,13 +106,13 @@ pub record Here (i kind at width : ℕ) : Type 0 where
   pub at_is : at ≡ 8 + widths (take i saved_rows)
   pub width_is : width ≡ row_width (at-nv i)
 
-module _ {kinds ats : List ℕ} (lent : Fields kinds ats) (i : ℕ) (h : i < nv_count) {at : ℕ} (e : at ≡ get_or ats i 0) where
+module _ (i : ℕ) (h : i < nv_count) {at : ℕ} (e : at ≡ get_or ats i 0) where
   pub seen : Here i (get_or kinds i 0) at (row_width (at-nv i))
   seen =
       record {
         there = h;
-        kind_is = column-at (λ (r : Row). r.kind) kinds lent.kinds_are i h;
-        at_is = e ∙ ap (λ (x : List ℕ). get_or x i 0) lent.ats_are ∙ start_here saved_rows i (omega (arith, nv-length)) 8;
+        kind_is = column-at (λ (r : Row). r.kind) i h;
+        at_is = e ∙ start_here saved_rows i (omega (arith, nv-length)) 8;
         width_is = refl;
       }
 
@@ -128,7 +120,7 @@ module _ {kinds ats : List ℕ} (lent : Fields kinds ats) (i : ℕ) (h : i < nv_
   module _ {next : ℕ} (f : next ≡ get_or ats (i + 1) 0) where
     ends : next ≡ at + row_width (at-nv i)
     ends =
-        f ∙ ap (λ (x : List ℕ). get_or x (i + 1) 0) lent.ats_are
+        f
         ∙ omega (arith, start-next saved_rows i (omega (arith, nv-length)) 8, widths-next saved_rows i (omega (arith, nv-length)), seen.at_is)
 
     pub here : Here i (get_or kinds i 0) at (next - at)
@@ -180,18 +172,18 @@ module _ {i kind at width' : ℕ} (g : Here i kind at width') where
       ∙ ap (λ (x : ℕ). take i s ++ (x ∷ [])) (e ∙ saved_is bs q)
       ∙ sym (take-suc s i 0 (numbers_long bs)))
 
-  pub number_known : (bs numbers : List ℕ) (n : ℕ) → i < n → Front bs numbers n → kind ≤ REAL → get_or numbers i 0 ≡ field bs at width'
-  number_known bs numbers n h f k =
+  pub number_known : (bs : List ℕ) {numbers : List ℕ} → numbers ≡ saved_numbers bs 8 saved_rows → kind ≤ REAL → get_or numbers i 0 ≡ field bs at width'
+  number_known bs f k =
       let q : width' ≡ cut (at-nv i) = g.width_is ∙ sym (cut_is (at-nv i) row_kept (let e = g.kind_is in omega arith)) in
-      sym (get_or-take n numbers i 0 h) ∙ ap (λ (l : List ℕ). get_or l i 0) f ∙ get_or-take n (saved_numbers bs 8 saved_rows) i 0 h ∙ sym (saved_is bs q)
+      ap (λ (l : List ℕ). get_or l i 0) f ∙ sym (saved_is bs q)
 
   -- the limits: an answer by rank is the row's
-  module _ {lows highs : List ℕ} (lent : Limits lows highs) (v : ℕ) {answer b : Bool} (says : answer ≡ between (get_or lows i 0) (get_or highs i 0) (rank kind v)) (is : answer ≡ b) where
+  module _ (v : ℕ) {answer b : Bool} (says : answer ≡ between (get_or lows i 0) (get_or highs i 0) (rank kind v)) (is : answer ≡ b) where
     low_here : get_or lows i 0 ≡ lowest (at-nv i)
-    low_here = column-at lowest lows lent.lows_are i g.there
+    low_here = column-at lowest i g.there
 
     high_here : get_or highs i 0 ≡ highest (at-nv i)
-    high_here = column-at highest highs lent.highs_are i g.there
+    high_here = column-at highest i g.there
 
     by_rank : (x : ℕ) → v ≡ x → between (lowest (at-nv i)) (highest (at-nv i)) (rank (at-nv i).kind x) ≡ b
     by_rank x e = sym (says ∙ rw (low_here, high_here, g.kind_is, e)) ∙ is
@@ -252,20 +244,25 @@ module _ {i kind at width' : ℕ} (g : Here i kind at width') where
 
 -- ---- the ends of the walks
 
-module _ (i : ℕ) (most : i ≤ nv_count) (all : (i < nv_count) → ⊥) where
-  none_left : drop i saved_rows ≡ []
-  none_left = drop_of_length-le saved_rows {i = i} (omega (arith, nv-length, all_passed))
-    where
-      all_passed : nv_count ≤ i
-      all_passed = ⊎_elim (λ l. absurd (all l)) (λ x. x) (lt_or_ge i nv_count)
+-- none is left
+none_left : drop nv_count saved_rows ≡ []
+none_left = drop_of_length-le saved_rows {i = nv_count} (omega (arith, nv-length))
 
-  pub saved_end : (bs : List ℕ) → saved_front bs 8 saved_rows ≡ i + saved_front bs (8 + widths (take i saved_rows)) (drop i saved_rows) → i ≡ saved_front bs 8 saved_rows
-  unfolding saved_front
-  saved_end bs f = sym (f ∙ (rw (none_left) (add-zero i)))
+pub saved_end : (bs : List ℕ) → saved_front bs 8 saved_rows ≡ nv_count + saved_front bs (8 + widths (take nv_count saved_rows)) (drop nv_count saved_rows) → nv_count ≡ saved_front bs 8 saved_rows
+unfolding saved_front
+saved_end bs f = sym (f ∙ rw none_left (add-zero nv_count))
 
-  pub held_end : (values : List ℕ) → held_front values saved_rows ≡ i + held_front values (drop i saved_rows) → i ≡ held_front values saved_rows
-  unfolding held_front
-  held_end values f = sym (f ∙ (rw (none_left) (add-zero i)))
+pub load_end : (bs first : List ℕ) → load_rows bs 8 (take nv_count saved_rows) first ≡ load_rows bs 8 saved_rows first
+load_end bs first = ap (λ (l : List Row). load_rows bs 8 l first) (take_all nv_count saved_rows (omega (arith, nv-length)))
+
+pub held_end : (values : List ℕ) → held_front values saved_rows ≡ nv_count + held_front values (drop nv_count saved_rows) → nv_count ≡ held_front values saved_rows
+unfolding held_front
+held_end values f = sym (f ∙ rw none_left (add-zero nv_count))
+
+-- the numbers, known up to the end
+pub all_known : (bs numbers : List ℕ) → length numbers ≡ nv_count → Front bs numbers nv_count → numbers ≡ saved_numbers bs 8 saved_rows
+all_known bs numbers long known =
+    sym (take_all nv_count numbers (omega arith)) ∙ known ∙ take_all nv_count (saved_numbers bs 8 saved_rows) (omega (arith, length_numbers bs 8 saved_rows, nv-length))
 
 -- ---- their beginnings
 
@@ -275,6 +272,10 @@ saved_begin bs = omega arith
 
 pub held_begin : (values : List ℕ) → held_front values saved_rows ≡ 0 + held_front values (drop 0 saved_rows)
 held_begin values = omega arith
+
+pub load_begin : (bs first : List ℕ) → first ≡ load_rows bs 8 (take 0 saved_rows) first
+unfolding load_rows
+load_begin bs first = refl
 
 pub save_begin : (l values : List ℕ) → l ≡ splice l 8 (saved values (take 0 saved_rows))
 unfolding saved

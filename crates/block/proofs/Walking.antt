@@ -151,11 +151,6 @@ starts-at at [] (suc i) h = absurd (not-suc-le-zero h)
 starts-at at (r ∷ rs) zero h = sym (add-zero at)
 starts-at at (r ∷ rs) (suc i) h = starts-at (at + row_width r) rs i (le_of_suc-le-suc h) ∙ add_assoc at (row_width r) (widths (take i rs))
 
-pub length-starts : (at : ℕ) (rs : List Row) → length (starts at rs) ≡ suc (length rs)
-unfolding starts
-length-starts at [] = refl
-length-starts at (r ∷ rs) = ap suc (length-starts (at + row_width r) rs)
-
 -- ---- how far the good ones go
 
 one_good : (b c : Bool) (m n : ℕ) → c ≡ eqb m n → (b && c) ≡ eqb (cond b (suc m) 0) (suc n)
@@ -182,12 +177,6 @@ pub held-most : (values : List ℕ) (rs : List Row) → held_front values rs ≤
 unfolding held_front
 held-most values [] = omega arith
 held-most values (r ∷ rs) = one_most (within r (number values r.place r.len)) (held_front values rs) (length rs) (held-most values rs)
-
-pub front_most : (bs : List ℕ) (at : ℕ) (rs : List Row) → saved_front bs at rs ≤ length rs
-unfolding saved_front
-front_most bs at [] = omega arith
-front_most bs at (r ∷ rs) =
-    one_most (within r (field bs at (row_width r))) (saved_front bs (at + row_width r) rs) (length rs) (front_most bs (at + row_width r) rs)
 
 -- ---- one row more
 

@@ -1,10 +1,10 @@
 -- What the calls of `load` and `store` say, put together. Over plain variables. Assumes nothing.
-use mathlib.Core.Bool.{Bool, true, false, cond, ◌&&◌, and-true, and-false}
-use mathlib.Core.List.{List, ◌∷◌, ◌++◌, append_assoc}
+use mathlib.Core.Bool.{Bool, true, false, ◌&&◌, and-true, and-false}
+use mathlib.Core.List.{List, [], ◌∷◌, ◌++◌, append_assoc}
 use mathlib.Core.Path.{◌≡◌, refl, sym, ap, ◌∙◌}
 use Prim.Native.Nat.{ℕ, zero, suc, ◌+◌, ◌-◌, ◌*◌, ◌≤◌, ◌<◌}
 use native.Mathlib.Omega.{arith}
-use lib.Dec.{eqb, ltb}
+use lib.Dec.{eqb}
 use lib.ListN.{length, take, drop, replicate, length-append, length-replicate, replicate-append-replicate}
 use lib.Seq.{take_all}
 use borrow.Author.Tests.{eq-eqb, ne_eqb}
@@ -13,13 +13,12 @@ use Rattle.wire.proofs.LittleLaws.{Bytes}
 use Rattle.bits.specs.Bits.{msb, bits, field, packed}
 use Rattle.block.proofs.Straight.{straight_known, loadable-over}
 use Rattle.block.proofs.Turns.{nv_keep, nv-length, nv-ends}
-use Rattle.block.proofs.Walking.{length-saved, held_all_good, saved_all_good, held-most, front_most}
+use Rattle.block.proofs.Walking.{length-saved, held_all_good, saved_all_good, held-most}
 use Rattle.block.proofs.Zeros.{zero_field}
-use Rattle.block.specs.Asked.{fresh_bytes, held_front, saved_front, Front, straight_by}
+use Rattle.block.specs.Asked.{fresh_bytes, held_front, saved_front, saved_numbers, straight_by}
 use Rattle.block.specs.Block.{LAYOUT, BAG552, widths, saved, load_rows, values_good, rows_good, all_zero, block_of, headed, good}
 use Rattle.block.specs.Saved.{saved_rows, storable, stored_block, loadable, loaded, leaves_straight}
 use Rattle.crossed.specs.Crossed.{straight}
-use Rattle.table.specs.Row.{Row}
 use Rattle.table.specs.Rows.{nv_count, nv_end}
 use Rattle.wire.proofs.SpliceLaws.{splice_behind}
 use Rattle.wire.specs.Splice.{splice}
@@ -32,60 +31,45 @@ rest_zero bs end first {n} h e =
     let k : end + (8 * first - end) ≡ 8 * first = omega arith in
     zero_field bs end (8 * first - end) e ∙ ap (λ (j : ℕ). eqb n 0 && all_zero (drop j bs)) k
 
--- ---- how many entries a load takes
+-- ---- what a load takes
 
-taken_none : (b : Bool) → false ≡ b → 0 ≡ cond b nv_count 0
-taken_none b e = rw (← e)
-
-taken-all : (b : Bool) → true ≡ b → nv_count ≡ cond b nv_count 0
-taken-all b e = rw (← e)
+-- a block that is not good
+not_good : (block : List ℕ) → good BAG552 (bits block) saved_rows ≡ false → false ≡ loadable block
+unfolding loadable
+not_good block e = sym (rw e)
 
 -- a block with another head
-pub head_bad : (block values : List ℕ) {b : Bool} → b ≡ headed BAG552 (bits block) → b ≡ false → (false ≡ loadable block) × (values ≡ loaded block values)
-unfolding loadable good loaded
-head_bad block values e f = let h : headed BAG552 (bits block) ≡ false = sym e ∙ f in (rw h, rw h)
+pub head_bad : (block : List ℕ) {head : Bool} → head ≡ headed BAG552 (bits block) → head ≡ false → false ≡ loadable block
+unfolding good
+head_bad block e f = not_good block (rw (sym e ∙ f))
 
-not_good : (block : List ℕ) → good BAG552 (bits block) saved_rows ≡ false → 0 ≡ cond (loadable block) nv_count 0
-unfolding loadable
-not_good block e = taken_none (loadable block) (sym (rw e))
-
-module _ (block : List ℕ) (h : headed BAG552 (bits block) ≡ true) {rest : Bool} (is-rest : rest ≡ all_zero (drop nv_end (bits block))) where
+module _ (block : List ℕ) {head : Bool} (is-head : head ≡ headed BAG552 (bits block)) (h : head ≡ true) {rest : Bool} (is-rest : rest ≡ all_zero (drop nv_end (bits block))) where
   by_parts : good BAG552 (bits block) saved_rows ≡ (rows_good (bits block) 8 saved_rows && rest)
   unfolding good
   by_parts =
-      rw h
+      rw (sym is-head ∙ h)
       (ap (λ (k : ℕ). rows_good (bits block) 8 saved_rows && all_zero (drop k (bits block))) nv-ends ∙ ap (λ (b : Bool). rows_good (bits block) 8 saved_rows && b) (sym is-rest))
 
-  pub rest_bad : rest ≡ false → 0 ≡ cond (loadable block) nv_count 0
+  pub rest_bad : rest ≡ false → false ≡ loadable block
   rest_bad z = not_good block (by_parts ∙ rw z (and-false (rows_good (bits block) 8 saved_rows)))
 
-  module _ (z : rest ≡ true) {front : ℕ} (is_front : front ≡ saved_front (bits block) 8 saved_rows) where
-    by_front : good BAG552 (bits block) saved_rows ≡ eqb front nv_count
-    by_front =
+  module _ (z : rest ≡ true) {all : Bool} (is-all : all ≡ eqb (saved_front (bits block) 8 saved_rows) nv_count) where
+    by_entries : good BAG552 (bits block) saved_rows ≡ all
+    by_entries =
         by_parts ∙ ap (λ (b : Bool). rows_good (bits block) 8 saved_rows && b) z ∙ and-true _
         ∙ saved_all_good (bits block) 8 saved_rows
-        ∙ ap (λ (k : ℕ). eqb k (length saved_rows)) (sym is_front)
-        ∙ ap (eqb front) nv-length
+        ∙ ap (eqb (saved_front (bits block) 8 saved_rows)) nv-length
+        ∙ sym is-all
 
-    pub entry_bad : front < nv_count → 0 ≡ cond (loadable block) nv_count 0
-    entry_bad h = not_good block (by_front ∙ ne_eqb front nv_count (λ q. omega arith))
+    pub entry_bad : all ≡ false → false ≡ loadable block
+    entry_bad e = not_good block (by_entries ∙ e)
 
     -- all entries are good, and an answer says whether a trip point is crossed
-    module _ (all : nv_count ≤ front) (lb : length block ≡ 512) (numbers : List ℕ) (known : Front (bits block) numbers front) (long : length numbers ≡ nv_count) {answer : Bool} (says : answer ≡ straight_by numbers) where
-      all_there : front ≡ nv_count
-      all_there = omega (arith, front_most (bits block) 8 saved_rows, nv-length)
-
-      by_points : loadable block ≡ answer
-      by_points =
-          loadable-over block lb (replicate 1024 0) refl
-          ∙ ap (λ (b : Bool). b && leaves_straight block (replicate 1024 0)) (by_front ∙ eq-eqb front nv_count all_there)
-          ∙ sym (says ∙ straight_known block lb (replicate 1024 0) refl numbers front known all long)
-
-      pub crossed_bad : answer ≡ false → 0 ≡ cond (loadable block) nv_count 0
-      crossed_bad e = taken_none (loadable block) (sym (by_points ∙ e))
-
-      pub all-taken : answer ≡ true → front ≡ cond (loadable block) nv_count 0
-      all-taken e = all_there ∙ taken-all (loadable block) (sym (by_points ∙ e))
+    pub by_points : all ≡ true → length block ≡ 512 → {numbers : List ℕ} → numbers ≡ saved_numbers (bits block) 8 saved_rows → {answer : Bool} → answer ≡ straight_by numbers → answer ≡ loadable block
+    by_points e lb known says =
+        says
+        ∙ straight_known block lb (replicate 1024 0) refl known
+        ∙ sym (loadable-over block lb (replicate 1024 0) refl ∙ ap (λ (b : Bool). b && leaves_straight block (replicate 1024 0)) (by_entries ∙ e))
 
 -- ---- the block that is stored
 
@@ -155,16 +139,26 @@ stored-bits values fresh e w =
     ∙ ap (λ (l : List ℕ). a ++ l) (append_assoc b s z)
 
 -- a fresh block over a cleared one
-pub fresh-over : (fresh : List ℕ) {n : ℕ} {cleared done : List ℕ} → n ≡ 512 → length fresh ≡ fresh_bytes → cleared ≡ replicate n 0 → done ≡ splice cleared 0 (take fresh_bytes fresh)
+pub fresh-over : (fresh : List ℕ) {n : ℕ} {cleared done : List ℕ} → n ≡ 512 → length fresh ≡ fresh_bytes → cleared ≡ replicate n 0 → done ≡ splice cleared 0 fresh
     → done ≡ fresh ++ replicate (512 - fresh_bytes) 0
 unfolding splice
 fresh-over fresh n l c d =
     let m : 0 + length fresh ≡ fresh_bytes = omega arith in
     d
-    ∙ ap (splice _ 0) (take_all fresh_bytes fresh (omega arith))
     ∙ ap (λ (x : List ℕ). splice x 0 fresh) (c ∙ ap (λ (k : ℕ). replicate {A = ℕ} k 0) n)
     ∙ ap (λ (k : ℕ). fresh ++ drop {A = ℕ} k (replicate 512 0)) m
     ∙ ap (λ (x : List ℕ). fresh ++ x) (drop-replicate fresh_bytes 512)
+
+-- they are bytes
+bytes_zeros : (n : ℕ) → Bytes (replicate n 0)
+bytes_zeros zero k = omega arith
+bytes_zeros (suc n) zero = omega arith
+bytes_zeros (suc n) (suc k) = bytes_zeros n k
+
+bytes_behind : (xs ys : List ℕ) → Bytes xs → Bytes ys → Bytes (xs ++ ys)
+bytes_behind [] ys a b k = b k
+bytes_behind (x ∷ xs) ys a b zero = a 0
+bytes_behind (x ∷ xs) ys a b (suc k) = bytes_behind xs ys (λ j. a (suc j)) b k
 
 -- 512 bytes with these bits
 bytes-with : (block : List ℕ) {bs : List ℕ} → Bytes block → length block ≡ 512 → bits block ≡ bs → block ≡ packed 512 bs
@@ -191,41 +185,29 @@ module _ (values block : List ℕ) (is-straight : straight values ≡ true) {n :
       (sym e, sym (rw e))
 
   pub store-done : nv_count ≤ n → length values ≡ 1024 → (fresh : List ℕ) {done : List ℕ} → bits fresh ≡ splice (splice (splice (bits (replicate fresh_bytes 0)) 0 (msb 4 LAYOUT)) 4 (msb 4 BAG552)) 8 (saved values (take n saved_rows))
-      → done ≡ fresh ++ replicate (512 - fresh_bytes) 0 → Bytes done → length done ≡ 512 → (true ≡ storable values) × (done ≡ stored_block values block)
+      → done ≡ fresh ++ replicate (512 - fresh_bytes) 0 → Bytes fresh → length done ≡ 512 → (true ≡ storable values) × (done ≡ stored_block values block)
   unfolding stored_block
   store-done h lv fresh {done} w d hb l =
       let q : n ≡ nv_count = omega (arith, held-most values saved_rows, nv-length) in
       let e : storable values ≡ true = by_front_held ∙ eq-eqb n nv_count q in
       let z : take n saved_rows ≡ saved_rows = take_all n saved_rows (omega (arith, nv-length)) in
       let f : bits done ≡ block_of BAG552 values saved_rows = ap bits d ∙ stored-bits values fresh lv (w ∙ rw z) in
-      (sym e, bytes-with done hb l f ∙ sym (rw e))
+      (sym e, bytes-with done (rw d (bytes_behind fresh (replicate (512 - fresh_bytes) 0) hb (bytes_zeros (512 - fresh_bytes)))) l f ∙ sym (rw e))
 
 -- ---- the values that are loaded
 
-some_of : (b : Bool) → ltb 0 (cond b nv_count 0) ≡ b
-some_of true = refl
-some_of false = refl
+module _ (block values : List ℕ) {taken : Bool} (says : taken ≡ loadable block) where
+  pub load_refused : taken ≡ false → (false ≡ loadable block) × (values ≡ loaded block values)
+  unfolding loaded
+  load_refused e =
+      let f : loadable block ≡ false = sym says ∙ e in
+      (sym f, sym (rw f))
 
--- a block is good where a load takes something
-some-taken : (block : List ℕ) {n : ℕ} → n ≡ cond (loadable block) nv_count 0 → ltb 0 n ≡ loadable block
-some-taken block e = ap (ltb 0) e ∙ some_of (loadable block)
-
-rows_taken : (b : Bool) (bs values : List ℕ) → load_rows bs 8 (take (cond b nv_count 0) saved_rows) values ≡ cond b (load_rows bs 8 saved_rows values) values
-unfolding load_rows
-rows_taken true bs values = ap (λ (l : List Row). load_rows bs 8 l values) (take_all nv_count saved_rows (omega (arith, nv-length)))
-rows_taken false bs values = refl
-
-pub load_done : (block values : List ℕ) {n : ℕ} → n ≡ cond (loadable block) nv_count 0 → {after : List ℕ} → after ≡ load_rows (bits block) 8 (take n saved_rows) values → (ltb 0 n ≡ loadable block) × (after ≡ loaded block values)
-unfolding loaded
-load_done block values e p =
-    (some-taken block e, p ∙ ap (λ (k : ℕ). load_rows (bits block) 8 (take k saved_rows) values) e ∙ rows_taken (loadable block) (bits block) values)
-
-pub taken-most : (block : List ℕ) {n : ℕ} → n ≡ cond (loadable block) nv_count 0 → n ≤ nv_count
-taken-most block e = rw e (most (loadable block))
-  where
-    most : (b : Bool) → cond b nv_count 0 ≤ nv_count
-    most true = omega arith
-    most false = omega arith
+  pub load_done : taken ≡ true → {after : List ℕ} → after ≡ load_rows (bits block) 8 saved_rows values → (true ≡ loadable block) × (after ≡ loaded block values)
+  unfolding loaded
+  load_done e p =
+      let f : loadable block ≡ true = sym says ∙ e in
+      (sym f, p ∙ sym (rw f))
 
 -- ---- a block without entries
 

@@ -1,17 +1,17 @@
 -- The laws of bits that are all zero, by fields and by bytes. Assumes nothing.
-use mathlib.Core.Bool.{Bool, true, ◌&&◌, and-true, and-false, and_assoc, and-eq-true_iff}
+use mathlib.Core.Bool.{Bool, true, ◌&&◌, and-true, and_assoc, and-eq-true_iff}
 use mathlib.Core.List.{List, [], ◌∷◌, ◌++◌, append_assoc}
 use mathlib.Core.Path.{◌≡◌, refl, sym, ap, ◌∙◌}
-use Prim.Native.Nat.{ℕ, zero, suc, ◌+◌, ◌*◌, ◌≤◌, ◌<◌}
+use Prim.Native.Nat.{ℕ, zero, suc, ◌+◌, ◌*◌, ◌≤◌, ◌<◌, max}
 use native.Mathlib.Numerals.{add-one}
 use native.Mathlib.Omega.{arith}
 use lib.Dec.{eqb}
-use lib.ListN.{length, take, drop, get_or, replicate, take-append-drop, drop_of_length-le, length-append}
-use lib.Seq.{drop-cons, drop-drop, drop_at, length-take-le}
-use borrow.Author.Tests.{eq-eqb, ne_eqb, eqb-true}
+use lib.ListN.{length, take, drop, get_or, replicate, take-append-drop, length-append, length-drop}
+use lib.Seq.{take_all, take-suc, drop-drop, drop_at, length-take-le}
+use borrow.Author.Tests.{ne_eqb, eqb-true}
 use Rattle.bits.proofs.Copying.{bits-drop}
 use Rattle.bits.proofs.Numbers.{num-msb}
-use Rattle.wire.proofs.LittleLaws.{Bytes}
+use Rattle.wire.proofs.LittleLaws.{Bytes, bytes-part}
 use Rattle.bits.specs.Bits.{msb, bits, num_from, num, field}
 use Rattle.block.specs.Block.{all_zero}
 use Rattle.wire.specs.Splice.{splice}
@@ -47,15 +47,38 @@ zero_field bs at w {n} e =
     ∙ ap (λ (x : Bool). x && all_zero (drop w (drop at bs))) (sym (ap (λ (k : ℕ). eqb k 0) e ∙ zero_num (take w (drop at bs))))
     ∙ ap (λ (l : List ℕ). eqb n 0 && all_zero l) (drop-drop w at bs)
 
--- a byte, and what comes after it
-pub zero_byte : (s : List ℕ) (i : ℕ) → i < length s → Bytes s → all_zero (drop (8 * i) (bits s)) ≡ (eqb (get_or s i 0) 0 && all_zero (drop (8 * (i + 1)) (bits s)))
-unfolding bits
-zero_byte s i h b =
-    ap all_zero (bits-drop s i ∙ ap bits (drop-cons s i 0 h))
-    ∙ zero_append (msb 8 (get_or s i 0)) (bits (drop (suc i) s))
-    ∙ ap (λ (x : Bool). x && all_zero (bits (drop (suc i) s))) (sym (zero_num (msb 8 (get_or s i 0))) ∙ ap (λ (n : ℕ). eqb n 0) (num-msb 8 (get_or s i 0) (b i)))
-    ∙ ap (λ (k : ℕ). eqb (get_or s i 0) 0 && all_zero (bits (drop k s))) (sym (add-one i))
-    ∙ ap (λ (l : List ℕ). eqb (get_or s i 0) 0 && all_zero l) (sym (bits-drop s (i + 1)))
+-- bytes are zero where their bits are
+zero_bytes : (s : List ℕ) → Bytes s → all_zero s ≡ all_zero (bits s)
+unfolding bits all_zero
+zero_bytes [] b = refl
+zero_bytes (x ∷ s) b =
+    ap (λ (z : Bool). eqb x 0 && z) (zero_bytes s (λ k. b (suc k)))
+    ∙ ap (λ (z : Bool). z && all_zero (bits s)) (sym (sym (zero_num (msb 8 x)) ∙ ap (λ (n : ℕ). eqb n 0) (num-msb 8 x (b 0))))
+    ∙ sym (zero_append (msb 8 x) (bits s))
+
+-- the bytes from byte first on
+pub zero_part : (s : List ℕ) (first n : ℕ) → Bytes s → length s ≤ first + n → all_zero (take n (drop first s)) ≡ all_zero (drop (8 * first) (bits s))
+zero_part s first n b h =
+    zero_bytes (take n (drop first s)) (bytes-part s first n b)
+    ∙ ap (λ (l : List ℕ). all_zero (bits l)) (take_all n (drop first s) (omega (arith, length-drop first s)))
+    ∙ ap all_zero (sym (bits-drop s first))
+
+-- the greatest of them so far, with one more
+most_zero : (m b : ℕ) → eqb (max m b) 0 ≡ (eqb m 0 && eqb b 0)
+most_zero zero b =
+    let e : max 0 b ≡ b = omega arith in
+    ap (λ (n : ℕ). eqb n 0) e
+most_zero (suc m) b = rw (ne_eqb (max (suc m) b) 0 (λ e. omega arith), ne_eqb (suc m) 0 (λ e. omega arith))
+
+pub most_next : (s : List ℕ) (i m : ℕ) → i < length s → eqb m 0 ≡ all_zero (take i s) → eqb (max m (get_or s i 0)) 0 ≡ all_zero (take (i + 1) s)
+unfolding all_zero
+most_next s i m h e =
+    most_zero m (get_or s i 0)
+    ∙ ap (λ (z : Bool). z && eqb (get_or s i 0) 0) e
+    ∙ ap (λ (z : Bool). all_zero (take i s) && z) (sym (and-true (eqb (get_or s i 0) 0)))
+    ∙ sym (zero_append (take i s) (get_or s i 0 ∷ []))
+    ∙ ap all_zero (sym (take-suc s i 0 h))
+    ∙ ap (λ (k : ℕ). all_zero (take k s)) (sym (add-one i))
 
 zero_drop : (n : ℕ) (bs : List ℕ) → all_zero bs ≡ true → all_zero (drop n bs) ≡ true
 unfolding all_zero
@@ -77,19 +100,6 @@ zero_behind l xs h e =
 -- a field of zeros says 0
 pub zero_said : (bs : List ℕ) (at w : ℕ) → all_zero (drop at bs) ≡ true → field bs at w ≡ 0
 zero_said bs at w e = eqb-true (field bs at w) 0 ((and-eq-true_iff _ _).0 (sym (zero_field bs at w refl) ∙ e)).0
-
--- the greatest byte so far, with one more
-pub most_more : (m b : ℕ) (z : Bool) → m < b → (eqb b 0 && z) ≡ (eqb m 0 && (eqb b 0 && z))
-most_more m b z h = rw (ne_eqb b 0 (λ e. omega arith)) (sym (and-false (eqb m 0)))
-
-pub most-same : (m b : ℕ) (z : Bool) → b ≤ m → (eqb m 0 && z) ≡ (eqb m 0 && (eqb b 0 && z))
-most-same zero b z h = rw (eq-eqb b 0 (omega arith))
-most-same (suc m) b z h = rw (ne_eqb (suc m) 0 (λ e. omega arith))
-
--- past the end there is nothing
-pub zero_end : (bs : List ℕ) (k : ℕ) → length bs ≤ k → true ≡ all_zero (drop k bs)
-unfolding all_zero
-zero_end bs k h = ap all_zero (sym (drop_of_length-le bs {i = k} h))
 
 pub zeros : (n : ℕ) → all_zero (replicate n 0) ≡ true
 unfolding all_zero

@@ -1,5 +1,5 @@
--- SHAPE: what the functions ask and give: of the columns lent, of an entry, of a walk over the NV rows.
-use Rattle.std.specs.Prelude.{Bool, cond, not, ◌&&◌, List, [], ◌∷◌, map, ◌≡◌, ℕ, suc, ◌+◌, ◌/◌, ◌≤◌, leb, take, get_or}
+-- SHAPE: what the functions ask and give: of the columns, of an entry, of a walk over the NV rows.
+use Rattle.std.specs.Prelude.{Bool, cond, not, ◌&&◌, List, [], ◌∷◌, ◌≡◌, ℕ, suc, ◌+◌, ◌/◌, ◌≤◌, leb, take, get_or}
 use Rattle.bits.specs.Bits.{field}
 use Rattle.block.specs.Block.{row_width, within}
 use Rattle.block.specs.Saved.{saved_rows}
@@ -17,19 +17,9 @@ unfoldable pub starts : ℕ → List Row → List ℕ
 starts at [] = at ∷ []
 starts at (r ∷ rs) = at ∷ starts (at + row_width r) rs
 
-pub record Fields (kinds ats : List ℕ) : Type 0 where
-  pub kinds_are : kinds ≡ map (λ (r : Row). r.kind) saved_rows
-  pub ats_are : ats ≡ starts 8 saved_rows
-
 -- the bits that are looked at as a number: of a string the first 32, which no limit refuses
 unfoldable pub cut : Row → ℕ
 cut r = cond (leb r.kind REAL) (row_width r) 32
-
-abbrev pub Cuts : List ℕ → Type 0
-Cuts cuts = cuts ≡ map cut saved_rows
-
-abbrev pub Places : List ℕ → Type 0
-Places places = places ≡ map (λ (r : Row). r.place) saved_rows
 
 -- limits, as places in the order of the type
 unfoldable pub lowest : Row → ℕ
@@ -37,10 +27,6 @@ lowest r = rank r.kind r.low
 
 unfoldable pub highest : Row → ℕ
 highest r = cond (leb r.kind REAL) (rank r.kind r.high) 4294967295
-
-pub record Limits (lows highs : List ℕ) : Type 0 where
-  pub lows_are : lows ≡ map lowest saved_rows
-  pub highs_are : highs ≡ map highest saved_rows
 
 -- ---- an entry
 

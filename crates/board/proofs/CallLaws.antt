@@ -23,51 +23,40 @@ use Rattle.sdo.specs.declared.Key.{Key}
 use Rattle.sdo.specs.declared.Opening.TheVariants.{Value, Own, Announced, Unsaid}
 use Rattle.sdo.specs.declared.Message.{Message}
 use Rattle.sdo.specs.declared.Message.TheVariants.{SendPart, OpenWrite, OpenRead, NextPart, Unknown}
-use Rattle.sdo.specs.declared.Heard.TheVariants.{GiveUp, Asks}
+use Rattle.std.specs.Prelude.{Some, None, Ok, Err}
 use Rattle.sdo.specs.Eight.{heard_of, request_heard, ask_of, answer_of, short, eight, eight_bytes}
 use Rattle.sdo.specs.Long.{opening_with, asked_with, ask_long, long_form, long_answer}
 use Rattle.sdo.proofs.HeardLaws.{ask_is}
 use Rattle.sdo.proofs.LongTrip.{long_request}
 use Rattle.mailbox.specs.declared.Head.{Head}
-use Rattle.mailbox.specs.declared.Mail.TheVariants.{Misshapen, NotSdo, Sdo}
+use Rattle.mailbox.specs.declared.Unfit.{Unfit}
+use Rattle.mailbox.specs.declared.Unfit.TheVariants.{Misshapen, NotSdo}
 use Rattle.mailbox.specs.Mail.{mailbox_size, head_of, counter_in, mail_of, sdo_in, service_of, mailed, mail_answer, mailboxes}
 use Rattle.transfer.specs.Records.{zero_record, view, base, lay, transfers}
 use Rattle.state.specs.State.{state_size, record_place, record_at, record_bytes, trips_place, trips_at, trips_bytes, form_at, fresh_state, settled}
 use Rattle.line.specs.Gauge.{sampled, plain, store_of}
 use Rattle.line.specs.Serving.{Told, told, told_by, message_told}
 use Rattle.post.specs.Delivery.{mail_told}
-use Rattle.board.specs.Lending.{Lent}
-use Rattle.board.specs.Calls.{sized, called, number_by, served, hears_eight, message_call, mail_call, mailbox_call, powered, boxed_by, with_form, power_up_call, fed, fed_by, sample_call, shown, image_call}
+use Rattle.board.specs.Calls.{refused_for, number_of, sized, called, number_by, served, hears_eight, message_call, mail_call, mailbox_call, powered, boxed_by, with_form, power_up_call, fed, fed_by, sample_call, shown, image_call}
 
 -- ---- lengths
 
 module _ (v b s : List ℕ) where
-  pub bad_values : (length v ≡ 1024 → ⊥) → false ≡ sized v b s
+  pub bad_values : (length v ≡ 1024 → ⊥) → sized v b s ≡ false
   unfolding sized
   bad_values n = rw (ne_eqb (length v) 1024 n)
 
-  pub bad_block : length v ≡ 1024 → (length b ≡ 512 → ⊥) → false ≡ sized v b s
+  pub bad_block : length v ≡ 1024 → (length b ≡ 512 → ⊥) → sized v b s ≡ false
   unfolding sized
   bad_block e n = rw (eq-eqb (length v) 1024 e, ne_eqb (length b) 512 n)
 
-  pub by_state : length v ≡ 1024 → length b ≡ 512 → eqb (length s) state_size ≡ sized v b s
+  pub bad_state : length v ≡ 1024 → length b ≡ 512 → (length s ≡ state_size → ⊥) → sized v b s ≡ false
   unfolding sized
-  by_state e f = rw (eq-eqb (length v) 1024 e, eq-eqb (length b) 512 f)
+  bad_state e f n = rw (eq-eqb (length v) 1024 e, eq-eqb (length b) 512 f, ne_eqb (length s) state_size n)
 
   pub all-sized : length v ≡ 1024 → length b ≡ 512 → length s ≡ state_size → sized v b s ≡ true
-  all-sized e f g = sym (by_state e f) ∙ eq-eqb (length s) state_size g
-
-  -- what is lent on
-  pub lent : sized v b s ≡ true → Lent v b s
   unfolding sized
-  lent =
-      go (eqb (length v) 1024) (eqb (length b) 512) (eqb (length s) state_size) (eqb-true (length v) 1024) (eqb-true (length b) 512) (eqb-true (length s) state_size)
-    where
-      go : (c d e : Bool) → (c ≡ true → length v ≡ 1024) → (d ≡ true → length b ≡ 512) → (e ≡ true → length s ≡ state_size) → (c && (d && e)) ≡ true → Lent v b s
-      go true true true f g h q = record { values_long = f refl; block_long = g refl; state_long = h refl }
-      go true true false f g h q = absurd (false≢true q)
-      go true false e f g h q = absurd (false≢true q)
-      go false d e f g h q = absurd (false≢true q)
+  all-sized e f g = rw (eq-eqb (length v) 1024 e, eq-eqb (length b) 512 f, eq-eqb (length s) state_size g)
 
 -- ---- which line speaks in eight bytes
 
@@ -119,15 +108,12 @@ module _ (line : ℕ) (m v b s a : List ℕ) where
 
 module _ (m v b s a : List ℕ) where
   -- where the mailbox is chosen
-  pub mail_misshapen : mail_of m ≡ Misshapen → called 6 v b s a ≡ mail_call m v b s a
-  unfolding mail_call
-  mail_misshapen e = rw e
+  pub mail_unfit : (unfit : Unfit) → mail_of m ≡ Err unfit → called (number_of (Err (refused_for unfit))) v b s a ≡ mail_call m v b s a
+  unfolding mail_call number_of
+  mail_unfit Misshapen e = rw e
+  mail_unfit NotSdo e = rw e
 
-  pub mail_not_sdo : mail_of m ≡ NotSdo → called 7 v b s a ≡ mail_call m v b s a
-  unfolding mail_call
-  mail_not_sdo e = rw e
-
-  module _ (h : Head) (asks : mail_of m ≡ Sdo h) where
+  module _ (h : Head) (asks : mail_of m ≡ Ok h) where
     pub mail_no_room : length a < mailbox_size → called 2 v b s a ≡ mail_call m v b s a
     unfolding mail_call
     mail_no_room q = rw (asks, lt-leb mailbox_size (length a) q)
@@ -165,7 +151,7 @@ number_given no_transfer h = refl
 number_given silent h = absurd h
 
 -- a message that asks is no client's abort
-asks-answer : (said : Message) (m : List ℕ) → Awaits (request_heard (Asks said) m)
+asks-answer : (said : Message) (m : List ℕ) → Awaits (request_heard (Some said) m)
 unfolding request_heard Awaits
 asks-answer (SendPart u n last) m = tt
 asks-answer (OpenWrite k (Value n)) m = tt
@@ -180,18 +166,18 @@ module _ (line : ℕ) (m v b s a : List ℕ) where
   abbrev said-on : ℕ → Spoken plain transfers
   said-on at = speak plain transfers eight_bytes (store_of v b s) (record_at s at) m
 
-  pub abort_served : {at : ℕ} {s' : List ℕ} → at ≡ record_place line → heard_of m ≡ GiveUp → s' ≡ splice s at (record_bytes zero_record)
+  pub abort_served : {at : ℕ} {s' : List ℕ} → at ≡ record_place line → heard_of m ≡ None → s' ≡ splice s at (record_bytes zero_record)
       → called 5 v b s' a ≡ served line (said-on (record_place line)) s a
   unfolding speak serve served settled number_by splice base lay answer_of request_heard
-  abort_served ea eh es = rw (ask_is m GiveUp eh, es, ea)
+  abort_served ea eh es = rw (ask_is m None eh, es, ea)
 
-  answered : (said : Message) → heard_of m ≡ Asks said → number_by (said-on (record_place line)).bytes ≡ 0
+  answered : (said : Message) → heard_of m ≡ Some said → number_by (said-on (record_place line)).bytes ≡ 0
   unfolding speak
   answered said eh =
-      number_given _ (answers plain eight (store_of v b s) (view (record_at s (record_place line))) (ask_of m) (subst Awaits (sym (ask_is m (Asks said) eh)) (asks-answer said m)))
+      number_given _ (answers plain eight (store_of v b s) (view (record_at s (record_place line))) (ask_of m) (subst Awaits (sym (ask_is m (Some said) eh)) (asks-answer said m)))
 
   -- what the line leaves, with the number of an answer
-  pub answer-served : {at : ℕ} {v' b' s' a' : List ℕ} → at ≡ record_place line → (said : Message) → heard_of m ≡ Asks said → told v' b' s' a' ≡ message_told at m v b s a
+  pub answer-served : {at : ℕ} {v' b' s' a' : List ℕ} → at ≡ record_place line → (said : Message) → heard_of m ≡ Some said → told v' b' s' a' ≡ message_told at m v b s a
       → called 0 v' b' s' a' ≡ served line (said-on (record_place line)) s a
   unfolding served told_by
   answer-served ea said eh et =
@@ -236,14 +222,14 @@ module _ (m v b s a : List ℕ) where
   mailed-on = speak plain transfers mailboxes (store_of v b s) (record_at s (record_place 0)) m
 
   module _ {sdo : List ℕ} (inside : sdo ≡ sdo_in m) where
-    pub abort_mailed : {s' : List ℕ} → heard_of sdo ≡ GiveUp → s' ≡ splice s 0 (record_bytes zero_record) → called 5 v b s' a ≡ served 0 mailed-on s a
+    pub abort_mailed : {s' : List ℕ} → heard_of sdo ≡ None → s' ≡ splice s 0 (record_bytes zero_record) → called 5 v b s' a ≡ served 0 mailed-on s a
     unfolding speak serve served settled number_by splice base lay mail_answer mailed long_answer answer_of request_heard asked_with
-    abort_mailed eh es = rw (← inside, long_request sdo GiveUp eh, es)
+    abort_mailed eh es = rw (← inside, long_request sdo None eh, es)
 
-    pub answer-mailed : {h : Head} {v' b' s' a' : List ℕ} → h ≡ head_of m → (said : Message) → heard_of sdo ≡ Asks said → told v' b' s' a' ≡ mail_told 0 h sdo v b s a → called 0 v' b' s' a' ≡ served 0 mailed-on s a
+    pub answer-mailed : {h : Head} {v' b' s' a' : List ℕ} → h ≡ head_of m → (said : Message) → heard_of sdo ≡ Some said → told v' b' s' a' ≡ mail_told 0 h sdo v b s a → called 0 v' b' s' a' ≡ served 0 mailed-on s a
     unfolding served told_by speak
     answer-mailed {h} eh said ea et =
-        let asks : Awaits (ask_long (sdo_in m)) = subst Awaits (sym (long_request sdo (Asks said) ea) ∙ ap ask_long inside) (still_asks (request_heard (Asks said) sdo) sdo (asks-answer said sdo)) in
+        let asks : Awaits (ask_long (sdo_in m)) = subst Awaits (sym (long_request sdo (Some said) ea) ∙ ap ask_long inside) (still_asks (request_heard (Some said) sdo) sdo (asks-answer said sdo)) in
         let there : number_by mailed-on.bytes ≡ 0 = mail_given (head_of m) _ (answers plain long_form (store_of v b s) (view (record_at s (record_place 0))) (ask_long (sdo_in m)) asks) in
         let here : told _ _ _ _ ≡ told_by 0 s a mailed-on = et ∙ ap₂ (λ (x : Head) (y : List ℕ). mail_told 0 x y v b s a) eh inside in
         rw there (ap (λ (t : Told). called 0 t.values t.block t.state t.answer) here)

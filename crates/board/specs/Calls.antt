@@ -1,13 +1,18 @@
 -- RULE: THE PROMISES OF THE BOARD'S CALLS (R13.1): each returned number, every byte of what was lent, on all inputs. Assumes nothing.
-use Rattle.std.specs.Prelude.{Bool, cond, not, ◌&&◌, ◌||◌, List, [], ◌∷◌, ℕ, eqb, leb, Float, length}
+use Rattle.std.specs.Prelude.{Bool, cond, not, ◌&&◌, ◌||◌, List, [], ◌∷◌, ℕ, eqb, leb, Float, length, Result, Ok, Err}
 use Rattle.wire.specs.Splice.{splice}
 use Rattle.sample.specs.Image.{image_of}
 use Rattle.gauge.specs.Memory.{Store}
 use Rattle.gauge.specs.PowerUp.{fresh_values}
 use Rattle.order.specs.Keep.{Spoken, speak}
 use Rattle.sdo.specs.Eight.{eight_bytes}
-use Rattle.mailbox.specs.declared.Mail.{Mail}
-use Rattle.mailbox.specs.declared.Mail.TheVariants.{Misshapen, NotSdo, Sdo}
+use Rattle.mailbox.specs.declared.Head.{Head}
+use Rattle.mailbox.specs.declared.Unfit.{Unfit}
+use Rattle.mailbox.specs.declared.Unfit.TheVariants.{Misshapen, NotSdo}
+use Rattle.board.specs.declared.Done.{Done}
+use Rattle.board.specs.declared.Done.TheVariants.{Plainly, Aborting}
+use Rattle.board.specs.declared.Refused.{Refused}
+use Rattle.board.specs.declared.Refused.TheVariants.{BadMessage, ShortRoom, BadLine, BadMemory, BadMailbox, NotSdo as NoSdo}
 use Rattle.mailbox.specs.Mail.{mailbox_size, mail_of, mailboxes}
 use Rattle.transfer.specs.Records.{transfers}
 use Rattle.state.specs.State.{state_size, record_place, record_at, trips_place, trips_bytes, form_place, form_at, form_bytes, fresh_state, settled}
@@ -16,6 +21,22 @@ use Rattle.line.specs.Gauge.{sampled, plain, store_of}
 -- the lengths of what is lent (R13.2)
 unfoldable pub sized : List ℕ → List ℕ → List ℕ → Bool
 sized values block state = eqb (length values) 1024 && (eqb (length block) 512 && eqb (length state) state_size)
+
+-- ---- the numbers that calls give back, by the code's enums (R13.2 to R13.10)
+
+unfoldable pub number_of : Result Done Refused → ℕ
+number_of (Ok Plainly) = 0
+number_of (Ok Aborting) = 5
+number_of (Err BadMessage) = 1
+number_of (Err ShortRoom) = 2
+number_of (Err BadLine) = 3
+number_of (Err BadMemory) = 4
+number_of (Err BadMailbox) = 6
+number_of (Err NoSdo) = 7
+
+abbrev pub refused_for : Unfit → Refused
+refused_for Misshapen = BadMailbox
+refused_for NotSdo = NoSdo
 
 -- ---- gauge_message
 
@@ -62,10 +83,10 @@ message_call line m values block state answer =
 -- ---- gauge_mailbox, which is line 0
 
 -- 6 and 7 (R13.9, R13.10), or what follows
-unfoldable pub by_mail : Mail → (ℕ → Called) → Called → Called
-by_mail Misshapen refuse follows = refuse 6
-by_mail NotSdo refuse follows = refuse 7
-by_mail (Sdo head) refuse follows = follows
+unfoldable pub by_mail : Result Head Unfit → (ℕ → Called) → Called → Called
+by_mail (Err Misshapen) refuse follows = refuse 6
+by_mail (Err NotSdo) refuse follows = refuse 7
+by_mail (Ok head) refuse follows = follows
 
 -- then 2 (R13.4)
 unfoldable pub mail_call : List ℕ → List ℕ → List ℕ → List ℕ → List ℕ → Called

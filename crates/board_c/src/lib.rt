@@ -1,4 +1,5 @@
-// THE CALLS FOR C FIRMWARE: each is the board's call of the same name, under C's name for it (include/gauge.h), with the same promise.
+// THE CALLS FOR C FIRMWARE: each is the board's call of the same name, under C's name for it (include/gauge.h), with the same promise; a crate is a
+// library or a static library, so they stand twice.
 #![tactic(auto)]
 
 ghost use Rattle.std.specs.Prelude.{◌≡◌};

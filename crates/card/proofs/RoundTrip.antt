@@ -4,6 +4,7 @@ use mathlib.Core.Path.{◌≡◌, refl, sym, ap, ◌∙◌}
 use mathlib.Core.List.{List, [], ◌++◌, append-nil}
 use Prim.Native.Nat.{ℕ, ◌+◌, ◌≤◌}
 use native.Mathlib.Omega.{arith}
+use Rattle.std.specs.Prelude.{Ok, Err}
 use lib.Dec.{eqb}
 use lib.ListN.{length, take, drop, length-drop, drop_of_length-le, take-append-drop}
 use lib.Seq.{drop-drop, length-take-le}
@@ -18,30 +19,28 @@ use Rattle.bits.specs.Fields.{encode, decode, total}
 use Rattle.bits.proofs.Numbers.{length-bits, msb-num, small_bits, small_take, small_drop, bytes_of}
 use Rattle.bits.proofs.Packing.{encode-decode}
 use Rattle.table.specs.Places.{settings_1, settings_2, high_enable, low_enable, high_level, low_level, high_hysteresis, low_hysteresis}
-use Rattle.limits.specs.declared.Verdict.{Verdict}
-use Rattle.limits.specs.declared.Verdict.TheVariants.{Within, NotANumber, Above, Below}
+use Rattle.limits.specs.Limits.{Verdict, within}
+use Rattle.limits.specs.declared.Outside.TheVariants.{NotANumber}
 use Rattle.card.specs.Card.{layout, point_widths, point_1, point_2, enable, point_fields, point_bits, card_bits, card_of, fields_of, layout_verdict, first_bad, point_verdict, card_verdict, with_point, with_card}
 use Rattle.card.proofs.Shown.{point_1-shown, point_2-shown}
 use Rattle.card.proofs.Stored.{flag_back, point_1-stored, point_2-stored}
 
--- ---- what `Within` says of a card
+-- ---- what `within` says of a card
 
-pub first_within : (a b : Verdict) → first_bad a b ≡ Within → (a ≡ Within) × (b ≡ Within)
+pub first_within : (a b : Verdict) → first_bad a b ≡ within → (a ≡ within) × (b ≡ within)
 unfolding first_bad
-first_within Within b e = (refl, e)
-first_within NotANumber b e = absurd (let z : ◌≡◌ {A = ℕ} 0 1 = cc in omega arith)
-first_within Above b e = absurd (let z : ◌≡◌ {A = ℕ} 0 1 = cc in omega arith)
-first_within Below b e = absurd (let z : ◌≡◌ {A = ℕ} 0 1 = cc in omega arith)
+first_within (Ok u) b e = (refl, e)
+first_within (Err o) b e = absurd cc
 
-right-layout : (v : ℕ) → layout_verdict v ≡ Within → v ≡ layout
+right-layout : (v : ℕ) → layout_verdict v ≡ within → v ≡ layout
 unfolding layout_verdict
 right-layout v e = go (eqb v layout) refl e
   where
-    go : (b : Bool) → eqb v layout ≡ b → cond b Within NotANumber ≡ Within → v ≡ layout
+    go : (b : Bool) → eqb v layout ≡ b → cond b within (Err NotANumber) ≡ within → v ≡ layout
     go true t e = eqb-true v layout t
-    go false t e = absurd (let z : ◌≡◌ {A = ℕ} 0 1 = cc in omega arith)
+    go false t e = absurd cc
 
-pub card_layout : (card : List ℕ) → card_verdict card ≡ Within → field (bits card) 0 4 ≡ layout
+pub card_layout : (card : List ℕ) → card_verdict card ≡ within → field (bits card) 0 4 ≡ layout
 unfolding card_verdict
 card_layout card e = right-layout _ (first_within _ _ e).0
 
@@ -67,7 +66,7 @@ pub record Flags (values : List ℕ) (at : ℕ) : Type 0 where
 
 module _ (values card : List ℕ) (long : length values ≡ 1024) (size : length card ≡ 33) where
   -- READING BACK WHAT WAS WRITTEN gives the card, at every bit
-  pub card_back : Bytes card → card_verdict card ≡ Within → card_of (with_card values card) ≡ card
+  pub card_back : Bytes card → card_verdict card ≡ within → card_of (with_card values card) ≡ card
   unfolding card_of card_bits point_bits
   card_back bytes fine =
       ap (λ (l : List ℕ). packed 33 l)
@@ -75,7 +74,7 @@ module _ (values card : List ℕ) (long : length values ≡ 1024) (size : length
       ∙ (rw size at (bytes_of card bytes))
 
   -- and the entries that it wrote are as good as the card
-  pub card_stored_within : card_verdict card ≡ Within → (point_verdict (point_fields (with_card values card) settings_1) ≡ Within) × (point_verdict (point_fields (with_card values card) settings_2) ≡ Within)
+  pub card_stored_within : card_verdict card ≡ within → (point_verdict (point_fields (with_card values card) settings_1) ≡ within) × (point_verdict (point_fields (with_card values card) settings_2) ≡ within)
   unfolding card_verdict
   card_stored_within fine = rw (point_1-stored values card long, point_2-stored values card long) (first_within _ _ (first_within _ _ fine).1)
 

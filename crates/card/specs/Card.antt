@@ -1,14 +1,13 @@
 -- RULE: THE TRIP CARD, house row 2010 (R1.7, R3.1): a view of the trip entries (R3.3).
-use Rattle.std.specs.Prelude.{cond, List, [], ◌∷◌, ◌++◌, ℕ, ◌+◌, eqb, drop, get_or}
+use Rattle.std.specs.Prelude.{cond, List, [], ◌∷◌, ◌++◌, ℕ, ◌+◌, eqb, drop, get_or, Ok, Err}
 use Rattle.wire.specs.Little.{number, put_number}
 use Rattle.wire.specs.Flags.{is_set, bit}
 use Rattle.bits.specs.Bits.{msb, bits, field, packed}
 use Rattle.bits.specs.Fields.{encode, decode}
 use Rattle.table.specs.Row.{REAL}
 use Rattle.table.specs.Places.{settings_1, settings_2, high_enable, low_enable, high_level, low_level, high_hysteresis, low_hysteresis}
-use Rattle.limits.specs.Limits.{kind_verdict}
-use Rattle.limits.specs.declared.Verdict.{Verdict}
-use Rattle.limits.specs.declared.Verdict.TheVariants.{Within, NotANumber, Above, Below}
+use Rattle.limits.specs.Limits.{Verdict, within, kind_verdict}
+use Rattle.limits.specs.declared.Outside.TheVariants.{NotANumber}
 
 -- R3.4
 abbrev pub layout : ℕ
@@ -63,7 +62,7 @@ fields_of card at = decode point_widths (drop at (bits card))
 
 -- R3.4
 unfoldable pub layout_verdict : ℕ → Verdict
-layout_verdict v = cond (eqb v layout) Within NotANumber
+layout_verdict v = cond (eqb v layout) within (Err NotANumber)
 
 -- R2.6
 unfoldable pub level_verdict : ℕ → Verdict
@@ -71,10 +70,8 @@ level_verdict v = kind_verdict REAL 0 0x44BB8000 v
 
 -- R3.5
 unfoldable pub first_bad : Verdict → Verdict → Verdict
-first_bad Within next = next
-first_bad NotANumber next = NotANumber
-first_bad Above next = Above
-first_bad Below next = Below
+first_bad (Ok u) next = next
+first_bad (Err e) next = Err e
 
 -- a point's fields in card order: a bit is an enable as it stands, each number is judged
 unfoldable pub point_verdict : List ℕ → Verdict

@@ -7,14 +7,14 @@ ghost use Rattle.wire.specs.Splice.{splice};
 ghost use Rattle.bits.specs.Bits.{msb, bits};
 ghost use Rattle.card.specs.Card.{enable, point_fields, card_of};
 
-use table::place;
-use wire::wide;
+use table::{Values, place};
+use wire::Number;
 
 fn enable_at(values: &[u8], at: usize) -> u32
     requires { at + 1 ≤ length values.now }
     ensures { result ≡ enable values.now at }
 {
-    wide::to_u32(wire::bit_of(wire::is_set(values, at)))
+    u32::from(wire::is_set(values, at))
 }
 
 // The fields of the point whose entries begin at a place.
@@ -25,10 +25,10 @@ fn point_at(values: &[u8], from: usize) -> [u32; 6]
     [
         enable_at(values, from + place::HIGH_ENABLE),
         enable_at(values, from + place::LOW_ENABLE),
-        wire::word_at(values, from + place::HIGH_LEVEL),
-        wire::word_at(values, from + place::HIGH_HYSTERESIS),
-        wire::word_at(values, from + place::LOW_LEVEL),
-        wire::word_at(values, from + place::LOW_HYSTERESIS),
+        u32::at(values, from + place::HIGH_LEVEL),
+        u32::at(values, from + place::HIGH_HYSTERESIS),
+        u32::at(values, from + place::LOW_LEVEL),
+        u32::at(values, from + place::LOW_HYSTERESIS),
     ]
 }
 
@@ -75,8 +75,8 @@ fn enables(point: [u32; 6]) -> u32
 }
 
 // The card as the first 33 bytes of what is lent: layout, trip point 1 and the enables of 2; then the words of 2.
-fn put_card(card: &mut [u8], values: &[u8])
-    requires { (33 ≤ length card.old) × (length card.old ≤ 64) × (length values.now ≡ 1024) }
+fn put_card(card: &mut [u8], values: &Values)
+    requires { (33 ≤ length card.old) × (length card.old ≤ 64) }
     ensures { card.new ≡ splice card.old 0 (card_of values.now) }
 {
     let one = point_at(values, place::SETTINGS_1);
@@ -94,8 +94,7 @@ fn put_card(card: &mut [u8], values: &[u8])
 }
 
 // The 33 bytes of the card, with zeros behind them.
-pub fn card_of(values: &[u8]) -> [u8; 64]
-    requires { length values.now ≡ 1024 }
+pub fn card_of(values: &Values) -> [u8; 64]
     ensures { result ≡ splice (replicate 64 0) 0 (card_of values.now) }
 {
     let mut card = [0u8; 64];

@@ -1,13 +1,15 @@
 // The four command words.
-ghost use Rattle.std.specs.Prelude.{◌≡◌, ◌+◌, ◌≤◌, ◌<◌, length, replicate};
+ghost use Rattle.std.specs.Prelude.{◌≡◌, ◌+◌, ◌≤◌, replicate};
 ghost use Rattle.wire.specs.Splice.{splice};
 ghost use Rattle.table.specs.Row.{COMMAND};
-ghost use Rattle.table.specs.Rows.{row_count, at_row};
+ghost use Rattle.table.specs.Rows.{at_row};
 ghost use Rattle.command.specs.Words.{command_at, word_of, read_word, status_of, with_status, same_bytes};
 
-use table::{place, row};
+use find::row::Row;
+use table::{Values, place, row};
+use wire::Number;
 
-#[derive(Clone, Copy)]
+#[derive(Clone, Copy, PartialEq, Eq)]
 pub enum Command {
     DeviceReset,
     ExceptionReset,
@@ -16,11 +18,11 @@ pub enum Command {
 }
 
 // The command of a command word's row.
-pub fn command_at(row: usize) -> Command
-    requires { (row < row_count) × ((at_row row).kind ≡ COMMAND) }
+pub fn command_at(row: Row) -> Command
+    requires { (at_row row).kind ≡ COMMAND }
     ensures { result ≡ command_at (at_row row).index }
 {
-    match row {
+    match row.number() {
         row::DEVICE_RESET => Command::DeviceReset,
         row::EXCEPTION_RESET => Command::ExceptionReset,
         row::STORE_PARAMETERS => Command::StoreParameters,
@@ -31,17 +33,7 @@ pub fn command_at(row: usize) -> Command
 fn same(bytes: &[u8], word: &[u8]) -> bool
     ensures { result ≡ same_bytes bytes.now word.now }
 {
-    if bytes.len() != word.len() {
-        return false;
-    }
-    let mut i = 0;
-    while i < bytes.len() {
-        if bytes[i] != word[i] {
-            return false;
-        }
-        i += 1;
-    }
-    true
+    bytes == word
 }
 
 // Are these the bytes that the command takes?
@@ -62,14 +54,8 @@ pub fn reading(command: Command) -> [u8; 64]
 {
     let mut bytes = [0u8; 64];
     match command {
-        Command::DeviceReset => {}
-        Command::ExceptionReset => {}
-        Command::StoreParameters => {
-            bytes[0] = 1;
-        }
-        Command::LoadParameters => {
-            bytes[0] = 1;
-        }
+        Command::DeviceReset | Command::ExceptionReset => {}
+        Command::StoreParameters | Command::LoadParameters => bytes[0] = 1,
     }
     bytes
 }
@@ -86,11 +72,10 @@ fn status_of(command: Command) -> usize
 }
 
 // Status and response byte 0.
-pub fn set_status(values: &mut [u8], command: Command, code: u8)
-    requires { length values.old ≡ 1024 }
+pub fn set_status(values: &mut Values, command: Command, code: u8)
     ensures { values.new ≡ with_status command code values.old }
 {
     let at = status_of(command);
-    wire::put_byte(values, at, code);
-    wire::put_byte(values, at + 1, code);
+    code.put(values, at);
+    code.put(values, at + 1);
 }

@@ -1,5 +1,5 @@
 -- What a crossed trip point is known by: its four numbers, and what one write makes of them. Assumes nothing.
-use mathlib.Core.Bool.{true, and-eq-true_iff}
+use mathlib.Core.Bool.{true, ◌&&◌, and-eq-true_iff}
 use mathlib.Core.List.{List}
 use mathlib.Core.Path.{◌≡◌, refl, sym, ap, ◌∙◌}
 use Prim.Native.Nat.{ℕ, ◌+◌, ◌≤◌}
@@ -51,11 +51,22 @@ module _ (values bytes : List ℕ) (at m p : ℕ) (room : p + length bytes ≤ l
   number_else n = sym (number-apart values p bytes at m here_room (rw (ne_eqb at p n) at lies))
 
 -- the four fields, one by one
-pub fields_fit : (at p n : ℕ) → fitting at p n ≡ true
-    → (own_or_apart (at + high_enable) 1 p n ≡ true) × (own_or_apart (at + low_enable) 1 p n ≡ true) × (own_or_apart (at + high_level) 4 p n ≡ true) × (own_or_apart (at + low_level) 4 p n ≡ true)
-unfolding fitting
-fields_fit at p n h =
-    let a = (and-eq-true_iff (own_or_apart (at + high_enable) 1 p n) _).0 h in
-    let b = (and-eq-true_iff (own_or_apart (at + low_enable) 1 p n) _).0 a.1 in
-    let c = (and-eq-true_iff (own_or_apart (at + high_level) 4 p n) _).0 b.1 in
-    (a.0, b.0, c.0, c.1)
+module _ (at p n : ℕ) (h : fitting at p n ≡ true) where
+  pub high_enable_fits : own_or_apart (at + high_enable) 1 p n ≡ true
+  unfolding fitting
+  high_enable_fits = ((and-eq-true_iff (own_or_apart (at + high_enable) 1 p n) _).0 h).0
+
+  others : (own_or_apart (at + low_enable) 1 p n ≡ true) × ((own_or_apart (at + high_level) 4 p n && own_or_apart (at + low_level) 4 p n) ≡ true)
+  unfolding fitting
+  others = (and-eq-true_iff (own_or_apart (at + low_enable) 1 p n) _).0 ((and-eq-true_iff (own_or_apart (at + high_enable) 1 p n) _).0 h).1
+
+  pub low_enable_fits : own_or_apart (at + low_enable) 1 p n ≡ true
+  low_enable_fits = others.0
+
+  pub high_level_fits : own_or_apart (at + high_level) 4 p n ≡ true
+  high_level_fits = ((and-eq-true_iff (own_or_apart (at + high_level) 4 p n) _).0 others.1).0
+
+  pub low_level_fits : own_or_apart (at + low_level) 4 p n ≡ true
+  low_level_fits = ((and-eq-true_iff (own_or_apart (at + high_level) 4 p n) _).0 others.1).1
+
+pub ruleset fields_fit = (high_enable_fits, low_enable_fits, high_level_fits, low_level_fits)

@@ -8,7 +8,7 @@ ghost use Rattle.limits.specs.Limits.{number_len};
 ghost use Rattle.crossed.specs.Crossed.{crossed, crossed_at, straight};
 ghost use Rattle.crossed.specs.Fitting.{own_or_apart, Fits};
 
-use table::{kind, place};
+use table::{Values, kind, place};
 
 // By the enables of its high and its low side, and the bit patterns of their levels.
 pub fn by_numbers(on_high: u32, on_low: u32, level_high: u32, level_low: u32) -> bool
@@ -25,6 +25,7 @@ pub fn by_numbers(on_high: u32, on_low: u32, level_high: u32, level_low: u32) ->
 }
 
 // The point whose settings begin at a place.
+#[tactic(auto, unfolding(limits::specs::Limits::number_len))]
 fn is_at(values: &[u8], at: usize) -> bool
     requires { at + 34 ≤ length values.now }
     ensures { result ≡ crossed_at values.now at }
@@ -38,8 +39,7 @@ fn is_at(values: &[u8], at: usize) -> bool
 }
 
 // Is neither point crossed?
-pub fn is_straight(values: &[u8]) -> bool
-    requires { length values.now ≡ 1024 }
+pub fn is_straight(values: &Values) -> bool
     ensures { result ≡ straight values.now }
 {
     if is_at(values, place::SETTINGS_1) {
@@ -51,8 +51,8 @@ pub fn is_straight(values: &[u8]) -> bool
 // ---- with some bytes in the place of what stands there
 
 // A number of the values, or of the bytes if they are to stand there.
-fn number_after(values: &[u8], at: usize, kind: u8, bytes: &[u8], place: usize) -> u32
-    requires { (at + number_len kind ≤ length values.now) × (place + length bytes.now ≤ length values.now) × (own_or_apart at (number_len kind) place (length bytes.now) ≡ true) }
+fn number_after(values: &Values, at: usize, kind: u8, bytes: &[u8], place: usize) -> u32
+    requires { (at + number_len kind ≤ 1024) × (place + length bytes.now ≤ 1024) × (own_or_apart at (number_len kind) place (length bytes.now) ≡ true) }
     ensures { result ≡ number (splice values.now place bytes.now) at (number_len kind) }
 {
     if at == place {
@@ -62,8 +62,10 @@ fn number_after(values: &[u8], at: usize, kind: u8, bytes: &[u8], place: usize) 
 }
 
 // The point whose settings begin at a place, with these bytes at theirs.
-pub fn is_after(values: &[u8], at: usize, bytes: &[u8], place: usize) -> bool
-    requires { (length values.now ≡ 1024) × (at + 34 ≤ 1024) × Fits at place (length bytes.now) }
+// As is_at, from two places: a closure for the number would be held to four numbers by its F.post, which is longer than the four lines.
+#[tactic(auto, unfolding(limits::specs::Limits::number_len), using(crate::proofs::CrossedLaws::fields_fit))]
+pub fn is_after(values: &Values, at: usize, bytes: &[u8], place: usize) -> bool
+    requires { (at + 34 ≤ 1024) × Fits at place (length bytes.now) }
     ensures { result ≡ crossed_at (splice values.now place bytes.now) at }
 {
     by_numbers(

@@ -28,8 +28,10 @@ use Rattle.gauge.specs.Memory.{Store, memory_of}
 use Rattle.gauge.specs.PowerUp.{fresh_values}
 use Rattle.sdo.specs.declared.Key.{Key}
 use Rattle.sdo.specs.Eight.{eight_bytes}
-use Rattle.mailbox.specs.declared.Mail.{Mail}
-use Rattle.mailbox.specs.declared.Mail.TheVariants.{Misshapen, NotSdo, Sdo}
+use Rattle.std.specs.Prelude.{Result, Ok, Err}
+use Rattle.mailbox.specs.declared.Head.{Head}
+use Rattle.mailbox.specs.declared.Unfit.{Unfit}
+use Rattle.mailbox.specs.declared.Unfit.TheVariants.{Misshapen, NotSdo}
 use Rattle.mailbox.specs.Mail.{mailbox_size, mail_of}
 use Rattle.mailbox.specs.Lines.{Line, tool, service, Line-same, speech_of, size_of}
 use Rattle.mailbox.proofs.LineLaws.{spoken-size}
@@ -39,8 +41,8 @@ use Rattle.transfer.proofs.RecordLaws.{Whole, Small, served_small}
 use Rattle.transfer.proofs.Kept.{next-served}
 use Rattle.state.specs.State.{state_size, record_place, record_at, trips_place, trips_at, trips_bytes, form_at, fresh_state, settled}
 use Rattle.line.specs.Gauge.{Sample, sampled, bag552, plain, store_of}
-use Rattle.board.specs.Calls.{Called, Fed, sized, called, number_by, served, hears_eight, message_call, mailbox_call, boxed_by, with_form, power_up_call, powered, fed_by, sample_call}
-use Rattle.board.proofs.CallLaws.{all-sized, no_line, no_room, no_message, is_served, not_chosen, is_chosen, mail_misshapen, mail_not_sdo, mail_no_room, mail_is_served}
+use Rattle.board.specs.Calls.{Called, Fed, number_of, sized, called, number_by, served, hears_eight, message_call, mailbox_call, boxed_by, with_form, power_up_call, powered, fed_by, sample_call}
+use Rattle.board.proofs.CallLaws.{all-sized, no_line, no_room, no_message, is_served, not_chosen, is_chosen, mail_unfit, mail_no_room, mail_is_served}
 use Rattle.demand3.specs.Firmware.{setup, Arrays, arrays, Exported, to_message, to_mailbox, to_sample, to_image, Back, back, by_sample, exported, history, final, power_on, line_of, answer_by, Answered, event_of, may_change, with_event, events, calls_in, observed, powered_store, store_in, line_number, board_in, Demand3Calls}
 use Rattle.demand3.proofs.Lengths.{fresh-sized, sample-sized}
 use Rattle.demand3.proofs.Bag552.{sound, real-rows, GoodStore, kept-records, all-clear, demand3_board}
@@ -190,7 +192,7 @@ module _ (boxed : Bool) (a : Arrays) (ok : Fitting boxed a) where
 
 -- gauge_mailbox: refused by 3, 6, 7 or 2, or served in mailboxes
 mailbox_heard : (boxed : Bool) (a : Arrays) → Fitting boxed a → (m room : List ℕ) → HeardSo boxed a tool m mailbox_size (mailbox_call m a.values a.block a.state room)
-unfolding answer_by
+unfolding answer_by number_of
 mailbox_heard false a ok m room =
     subst (HeardSo false a tool m mailbox_size) (not_chosen m a.values a.block a.state room (good_lengths false a ok) ok.form_is) (heard-refused false a ok tool m mailbox_size 3 room refl)
 mailbox_heard true a ok m room = by_mail (mail_of m) refl
@@ -207,10 +209,10 @@ mailbox_heard true a ok m room = by_mail (mail_of m) refl
     good : sized a.values a.block a.state ≡ true
     good = good_lengths true a ok
 
-    by_mail : (l : Mail) → mail_of m ≡ l → Is (mailbox_call m a.values a.block a.state room)
-    by_mail Misshapen e = subst Is (mail_misshapen m a.values a.block a.state room e ∙ is_chosen m a.values a.block a.state room good chosen) (refused 6 refl)
-    by_mail NotSdo e = subst Is (mail_not_sdo m a.values a.block a.state room e ∙ is_chosen m a.values a.block a.state room good chosen) (refused 7 refl)
-    by_mail (Sdo h) e = by_room (lt_or_ge (length room) mailbox_size)
+    by_mail : (l : Result Head Unfit) → mail_of m ≡ l → Is (mailbox_call m a.values a.block a.state room)
+    by_mail (Err Misshapen) e = subst Is (mail_unfit m a.values a.block a.state room Misshapen e ∙ is_chosen m a.values a.block a.state room good chosen) (refused 6 refl)
+    by_mail (Err NotSdo) e = subst Is (mail_unfit m a.values a.block a.state room NotSdo e ∙ is_chosen m a.values a.block a.state room good chosen) (refused 7 refl)
+    by_mail (Ok h) e = by_room (lt_or_ge (length room) mailbox_size)
       where
         by_room : (length room < mailbox_size) ⊎ (mailbox_size ≤ length room) → Is (mailbox_call m a.values a.block a.state room)
         by_room (inl r) = subst Is (mail_no_room m a.values a.block a.state room h e r ∙ is_chosen m a.values a.block a.state room good chosen) (refused 2 refl)

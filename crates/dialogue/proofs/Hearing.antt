@@ -10,13 +10,14 @@ use lib.ListN.{length, take, get_or, set, replicate, length-append, length-set, 
 use lib.Seq.{take_all, take-suc-set, take-append-le}
 use borrow.Author.Tests.{ltb-true, ltb-false, leb-true, leb-false, ne_eqb, lt-ltb, le-ltb}
 use Rattle.wire.proofs.FlagLaws.{by_test}
-use Rattle.dialogue.specs.declared.Pending.{Pending}
-use Rattle.dialogue.specs.Text.{no_message, is_message, read, without_return, spoken}
+use Rattle.std.specs.Prelude.{None}
+use Rattle.dialogue.specs.declared.hear.Pending.{Pending}
+use Rattle.dialogue.specs.Text.{is_message, read, without_return, spoken}
 use Rattle.dialogue.specs.Lines.{lines, lines_from, nothing_yet, extended, after, pending_spoken, left_over, lines_heard}
 
 -- ---- a line of more than nineteen bytes is no message, whatever it is
 
-long_read : (l : List ℕ) → 18 < length l → read l ≡ no_message
+long_read : (l : List ℕ) → 18 < length l → read l ≡ None
 unfolding read is_message
 long_read l h = rw (ne_eqb (length l) 18 (λ e. omega arith))
 
@@ -27,7 +28,7 @@ long_return l =
     (λ e. rw (e, length-take) (omega arith))
     (λ e. rw e (omega arith))
 
-pub too_long : (l : List ℕ) → 20 ≤ length l → spoken l ≡ no_message
+pub too_long : (l : List ℕ) → 20 ≤ length l → spoken l ≡ None
 unfolding spoken
 too_long l h = long_read (without_return l) (omega (arith, long_return l))
 
@@ -48,18 +49,6 @@ pub record Holds (text : List ℕ) (n : ℕ) (l : List ℕ) : Type 0 where
 
 holds_none : (text : List ℕ) → length text ≡ 20 → Holds text 0 []
 holds_none text h = record { wide = h; counted = refl; kept = refl }
-
--- never more than twenty bytes
-extended-count : (text : List ℕ) (n b : ℕ) → n ≤ 20 → (extended text n b).count ≤ 20
-unfolding extended
-extended-count text n b h =
-    by_test (eqb b 10)
-    (λ e. rw e h)
-    (λ e. rw e (by_test (ltb n 20) (λ f. rw f (omega (arith, ltb-true n 20 f))) (λ f. rw f h)))
-
-pub after-count : (p : Pending) (b : ℕ) → p.count ≤ 20 → (after p b).count ≤ 20
-unfolding after
-after-count p b h = extended-count p.text (cond p.ended 0 p.count) b (by_test p.ended (λ e. rw e (omega arith)) (λ e. rw e h))
 
 module _ (text l : List ℕ) (n b : ℕ) (k : Holds text n l) where
   holds_more : n < 20 → Holds (set text n b) (n + 1) (l ++ (b ∷ []))

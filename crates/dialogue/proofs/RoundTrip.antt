@@ -7,6 +7,7 @@ use native.Mathlib.Omega.{arith}
 use lib.Dec.{ltb}
 use lib.ListN.{length, get_or}
 use borrow.Author.Tests.{ltb-true, ltb-false, lt-ltb, le-ltb, le-leb, lt-leb, ne_eqb}
+use Rattle.std.specs.Prelude.{Option}
 use Rattle.wire.proofs.LittleLaws.{Bytes}
 use Rattle.dialogue.specs.declared.Spoken.{Spoken}
 use Rattle.dialogue.specs.Text.{between, is_digit, digit_value, all_digits, pairs, is_message, a_message, read, spoken, capital, hex_text, message_text, answer_text}
@@ -111,4 +112,4 @@ module _ (n : ℕ) (bytes : List ℕ) (h : n < 2) (e : length bytes ≡ 8) (k : 
   -- and a line that is printed, given back as input, is that message and nothing else
   pub printed_heard : lines_heard nothing_yet (answer_text n bytes) ≡ a_message n bytes ∷ []
   unfolding answer_text
-  printed_heard = heard (message_text n bytes ++ (10 ∷ [])) ∙ ap (map spoken) (unbroken (message_text n bytes) [] message-high) ∙ ap (λ (s : Spoken). s ∷ []) printed_spoken
+  printed_heard = heard (message_text n bytes ++ (10 ∷ [])) ∙ ap (map spoken) (unbroken (message_text n bytes) [] message-high) ∙ ap (λ (s : Option Spoken). s ∷ []) printed_spoken

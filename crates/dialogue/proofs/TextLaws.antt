@@ -1,5 +1,5 @@
 -- Digits, pairs of digits and printed bytes: one turn of each loop, and what digits come to. Assumes nothing.
-use mathlib.Core.Bool.{Bool, true, false, ◌&&◌, and-eq-true_iff}
+use mathlib.Core.Bool.{Bool, true, false, cond, ◌&&◌, and-eq-true_iff}
 use mathlib.Core.List.{List, [], ◌∷◌, ◌++◌}
 use mathlib.Core.Path.{◌≡◌, refl, sym, ap, ◌∙◌}
 use Prim.Native.Nat.{ℕ, zero, suc, ◌+◌, ◌-◌, ◌*◌, ◌/◌, ◌%◌, ◌≤◌, ◌<◌}
@@ -11,7 +11,9 @@ use lib.Seq.{drop-cons, take_all, take_at}
 use borrow.Author.Tests.{leb-true, eqb-true, eq-eqb, ne_eqb}
 use Rattle.wire.specs.Splice.{splice}
 use Rattle.wire.proofs.SpliceLaws.{splice_cons, splice_none, splice_then, length-splice}
-use Rattle.dialogue.specs.Text.{no_message, a_message, pick_spoken, read, spoken, between, is_digit, digit_value, all_digits, pairs, is_message, without_return, capital, hex_text, message_text, answer_text, none_text, unknown_text}
+use Rattle.std.specs.Prelude.{Some, None}
+use Rattle.dialogue.specs.declared.Spoken.{Spoken}
+use Rattle.dialogue.specs.Text.{a_message, read, spoken, between, is_digit, digit_value, all_digits, pairs, is_message, without_return, capital, hex_text, message_text, answer_text, none_text, unknown_text}
 
 pub between-low : (low b high : ℕ) → between low b high ≡ true → low ≤ b
 unfolding between
@@ -20,19 +22,6 @@ between-low low b high h = leb-true low b ((and-eq-true_iff (leb low b) (leb b h
 pub between-high : (low b high : ℕ) → between low b high ≡ true → b ≤ high
 unfolding between
 between-high low b high h = leb-true b high ((and-eq-true_iff (leb low b) (leb b high)).0 h).1
-
--- what the digit in each of the three ranges is worth
-pub value_figure : (b : ℕ) → between 48 b 57 ≡ true → (b - 48 ≡ digit_value b) × (b - 48 < 16)
-unfolding digit_value
-value_figure b h = (rw h refl, omega (arith, between-low 48 b 57 h, between-high 48 b 57 h))
-
-pub value-capital : (b : ℕ) → between 48 b 57 ≡ false → between 65 b 70 ≡ true → (b - 55 ≡ digit_value b) × (b - 55 < 16)
-unfolding digit_value
-value-capital b g h = (rw (g, h) refl, omega (arith, between-low 65 b 70 h, between-high 65 b 70 h))
-
-pub value_small : (b : ℕ) → between 48 b 57 ≡ false → between 65 b 70 ≡ false → between 97 b 102 ≡ true → (b - 87 ≡ digit_value b) × (b - 87 < 16)
-unfolding digit_value
-value_small b f g h = (rw (f, g, h) refl, omega (arith, between-low 97 b 102 h, between-high 97 b 102 h))
 
 -- a part that goes to the end
 pub rest_whole : (l : List ℕ) (n : ℕ) → take (length l - n) (drop n l) ≡ drop n l
@@ -154,11 +143,11 @@ pub text_put : (text room put : List ℕ) (r : ℕ) → r ≡ length text → pu
 unfolding splice
 text_put text room put r h e = rw e (take_at text (drop (0 + length text) room) r (sym h))
 
--- a line that was spoken is 0 or 1
-pub spoken-line : (l : List ℕ) → (spoken l).line < 2
+-- a message is on line 0 or 1
+pub spoken-line : (l : List ℕ) (s : Spoken) → spoken l ≡ Some s → s.line < 2
 unfolding spoken read
-spoken-line l = go (is_message (without_return l)) refl
+spoken-line l s = go (is_message (without_return l)) refl
   where
-    go : (t : Bool) → is_message (without_return l) ≡ t → (pick_spoken t (a_message (get_or (without_return l) 0 0 - 48) (pairs (drop 2 (without_return l)))) no_message).line < 2
-    go true e = omega (arith, message_figure (without_return l) e)
-    go false e = omega arith
+    go : (t : Bool) → is_message (without_return l) ≡ t → cond t (a_message (get_or (without_return l) 0 0 - 48) (pairs (drop 2 (without_return l)))) None ≡ Some s → s.line < 2
+    go true e h = let k : get_or (without_return l) 0 0 - 48 ≡ s.line = cc in omega (arith, message_figure (without_return l) e)
+    go false e h = absurd (cc)

@@ -1,5 +1,5 @@
 -- RULE: A TEXT LINE: what it says, and what is printed (R17.1, R17.2). Bytes are ASCII codes.
-use Rattle.std.specs.Prelude.{Bool, true, false, cond, ◌&&◌, ◌||◌, List, [], ◌∷◌, ◌++◌, ℕ, ◌+◌, ◌-◌, ◌*◌, ◌/◌, ◌%◌, leb, ltb, eqb, length, take, drop, get_or, replicate}
+use Rattle.std.specs.Prelude.{Bool, true, cond, ◌&&◌, ◌||◌, List, [], ◌∷◌, ◌++◌, ℕ, ◌+◌, ◌-◌, ◌*◌, ◌/◌, ◌%◌, leb, ltb, eqb, length, take, drop, get_or, Option, Some, None}
 use Rattle.dialogue.specs.declared.Spoken.{Spoken}
 
 unfoldable pub between : ℕ → ℕ → ℕ → Bool
@@ -26,25 +26,18 @@ pairs (h ∷ l ∷ rest) = (16 * digit_value h + digit_value l) ∷ pairs rest
 unfoldable pub is_message : List ℕ → Bool
 is_message l = eqb (length l) 18 && (between 48 (get_or l 0 0) 49 && (eqb (get_or l 1 0) 32 && all_digits (drop 2 l)))
 
-abbrev pub no_message : Spoken
-no_message = record { message = false; line = 0; eight = replicate 8 0 }
+abbrev pub a_message : ℕ → List ℕ → Option Spoken
+a_message n bytes = Some (record { line = n; eight = bytes })
 
-abbrev pub a_message : ℕ → List ℕ → Spoken
-a_message n bytes = record { message = true; line = n; eight = bytes }
-
-abbrev pub pick_spoken : Bool → Spoken → Spoken → Spoken
-pick_spoken true a b = a
-pick_spoken false a b = b
-
-unfoldable pub read : List ℕ → Spoken
-read l = pick_spoken (is_message l) (a_message (get_or l 0 0 - 48) (pairs (drop 2 l))) no_message
+unfoldable pub read : List ℕ → Option Spoken
+read l = cond (is_message l) (a_message (get_or l 0 0 - 48) (pairs (drop 2 l))) None
 
 -- house: one carriage return right before the newline is no part of the line
 unfoldable pub without_return : List ℕ → List ℕ
 without_return l = cond (eqb (get_or l (length l - 1) 0) 13) (take (length l - 1) l) l
 
--- what a line says, given without its newline
-unfoldable pub spoken : List ℕ → Spoken
+-- what a line says, if it is a message; given without its newline
+unfoldable pub spoken : List ℕ → Option Spoken
 spoken l = read (without_return l)
 
 -- ---- what is printed

@@ -1,79 +1,59 @@
 // Bytes become lines as they come: one byte, one step, so that it does not matter how the input is cut.
-ghost use Rattle.std.specs.Prelude.{◌≡◌, ◌≤◌, take};
-ghost use Rattle.dialogue.specs.Text.{spoken};
-ghost use Rattle.dialogue.specs.Lines.{nothing_yet, extended, after, pending_spoken, left_over};
+ghost use Rattle.std.specs.Prelude.{◌≡◌};
+ghost use Rattle.dialogue.specs.Lines.{nothing_yet, after, pending_spoken, left_over};
 
-use crate::{Pending, Spoken, read};
+use crate::{Spoken, read};
 
-pub fn begun() -> Pending
-    ensures { result ≡ nothing_yet }
-{
-    Pending {
-        text: [0u8; 20],
-        count: 0,
-        ended: false,
-    }
+// The line that is coming: the first count bytes of text. Where ended is true it is whole, and the next byte begins another. A count beside the bytes, and no
+// Vec: `after` and `pending_spoken` are said of these fields, and a push that can't grow would fail where this one can't.
+#[derive(Clone, Copy)]
+pub struct Pending {
+    pub text: [u8; 20],
+    pub count: usize,
+    pub ended: bool,
 }
 
-// One byte more to the first count bytes of text.
-fn extended_by(text: [u8; 20], count: usize, byte: u8) -> Pending
-    ensures { result ≡ extended text count byte }
-{
-    if byte == b'\n' {
-        return Pending {
-            text,
-            count,
-            ended: true,
-        };
-    }
-    if 20 <= count {
-        return Pending {
-            text,
-            count,
+impl Pending {
+    #[tactic(auto, unfolding(crate::specs::Lines::nothing_yet))]
+    pub fn new() -> Pending
+        ensures { result ≡ nothing_yet }
+    {
+        Pending {
+            text: [0; 20],
+            count: 0,
             ended: false,
-        };
+        }
     }
-    let mut longer = text;
-    longer[count] = byte;
-    Pending {
-        text: longer,
-        count: count + 1,
-        ended: false,
+
+    // One byte more; past the twentieth it is not kept.
+    #[tactic(auto, unfolding(crate::specs::Lines::after, crate::specs::Lines::extended))]
+    pub fn push(&mut self, byte: u8)
+        ensures { self.new ≡ after self.old byte }
+    {
+        if self.ended {
+            self.count = 0;
+        }
+        self.ended = byte == b'\n';
+        if !self.ended && self.count < 20 {
+            self.text[self.count] = byte;
+            self.count += 1;
+        }
     }
-}
 
-pub fn with_byte(pending: Pending, byte: u8) -> Pending
-    ensures { result ≡ after pending byte }
-{
-    let text = pending.text;
-    if pending.ended {
-        return extended_by(text, 0, byte);
+    // What the line says, as it stands.
+    #[tactic(auto, unfolding(crate::specs::Lines::pending_spoken))]
+    pub fn said(&self) -> Option<Spoken>
+        ensures { result ≡ pending_spoken self.now }
+    {
+        let end = self.count.min(20);
+        read::line_spoken(&self.text[..end])
     }
-    extended_by(text, pending.count, byte)
-}
 
-fn text_spoken(text: [u8; 20], count: usize) -> Spoken
-    requires { count ≤ 20 }
-    ensures { result ≡ spoken (take count text) }
-{
-    read::line_spoken(&text[..count])
-}
-
-// What the line that is coming says, as it stands.
-pub fn said(pending: Pending) -> Spoken
-    requires { pending.count ≤ 20 }
-    ensures { result ≡ pending_spoken pending }
-{
-    let text = pending.text;
-    text_spoken(text, pending.count)
-}
-
-// At the end of the input: a last line without a newline counts where it is not empty.
-pub fn is_left(pending: Pending) -> bool
-    ensures { result ≡ left_over pending }
-{
-    if pending.ended {
-        return false;
+    // At the end of the input: a last line without a newline counts where it is not empty.
+    #[tactic(auto, unfolding(crate::specs::Lines::left_over))]
+    pub fn is_left(&self) -> bool
+        ensures { result ≡ left_over self.now }
+    {
+        !self.ended && 0 < self.count
     }
-    0 < pending.count
 }

@@ -3,6 +3,7 @@ ghost use Rattle.std.specs.Prelude.{◌≡◌, ◌+◌, ◌*◌, ◌≤◌, ◌<
 ghost use Rattle.wire.specs.Splice.{splice};
 ghost use Rattle.dialogue.specs.Text.{capital, hex_text, answer_text, none_text, unknown_text};
 
+#[tactic(auto, unfolding(crate::specs::Text::capital))]
 fn capital_of(n: u8) -> u8
     requires { n < 16 }
     ensures { result ≡ capital n }
@@ -17,12 +18,9 @@ fn put_hex(room: &mut [u8], at: usize, bytes: &[u8])
     requires { (at ≤ 19) × ((length bytes.now ≤ 8) × (at + 2 * length bytes.now ≤ length room.old)) }
     ensures { room.new ≡ splice room.old at (hex_text bytes.now) }
 {
-    let mut i = 0;
-    while i < bytes.len() {
-        let b = bytes[i];
+    for (i, b) in bytes.iter().enumerate() {
         room[at + 2 * i] = capital_of(b / 16);
         room[at + 2 * i + 1] = capital_of(b % 16);
-        i += 1;
     }
 }
 

@@ -1,54 +1,35 @@
 // What a line of text says.
 ghost use Rattle.std.specs.Prelude.{◌≡◌, ◌<◌, length};
-ghost use Rattle.dialogue.specs.Text.{between, is_digit, digit_value, all_digits, pairs, is_message, read, spoken};
+ghost use Rattle.dialogue.specs.Text.{is_digit, digit_value, all_digits, pairs, is_message, read, spoken};
 
 use crate::Spoken;
 
-fn is_between(low: u8, b: u8, high: u8) -> bool
-    ensures { result ≡ between low b high }
-{
-    if b < low {
-        return false;
-    }
-    b <= high
-}
-
+#[tactic(auto, unfolding(crate::specs::Text::between, crate::specs::Text::is_digit))]
 fn is_a_digit(b: u8) -> bool
     ensures { result ≡ is_digit b }
 {
-    if is_between(b'0', b, b'9') {
-        return true;
-    }
-    if is_between(b'A', b, b'F') {
-        return true;
-    }
-    is_between(b'a', b, b'f')
+    matches!(b, b'0'..=b'9' | b'A'..=b'F' | b'a'..=b'f')
 }
 
+#[tactic(auto, unfolding(crate::specs::Text::between, crate::specs::Text::digit_value))]
 fn value_of(b: u8) -> u8
     ensures { (result ≡ digit_value b) × (result < 16) }
 {
-    if is_between(b'0', b, b'9') {
-        return b - b'0';
+    match b {
+        b'0'..=b'9' => b - b'0',
+        b'A'..=b'F' => b - 55,
+        b'a'..=b'f' => b - 87,
+        _ => 0,
     }
-    if is_between(b'A', b, b'F') {
-        return b - 55;
-    }
-    if is_between(b'a', b, b'f') {
-        return b - 87;
-    }
-    0
 }
 
 fn are_digits(text: &[u8]) -> bool
     ensures { result ≡ all_digits text.now }
 {
-    let mut i = 0;
-    while i < text.len() {
-        if !is_a_digit(text[i]) {
+    for b in text {
+        if !is_a_digit(*b) {
             return false;
         }
-        i += 1;
     }
     true
 }
@@ -59,12 +40,10 @@ fn bytes_of(text: &[u8]) -> [u8; 8]
     ensures { result ≡ pairs text.now }
 {
     let mut eight = [0u8; 8];
-    let mut i = 0;
-    while i < 8 {
+    for i in 0..8 {
         let high = value_of(text[2 * i]);
         let low = value_of(text[2 * i + 1]);
         eight[i] = 16 * high + low;
-        i += 1;
     }
     eight
 }
@@ -75,7 +54,7 @@ fn says_message(text: &[u8]) -> bool
     if text.len() != 18 {
         return false;
     }
-    if !is_between(b'0', text[0], b'1') {
+    if !(b'0'..=b'1').contains(&text[0]) {
         return false;
     }
     if text[1] != b' ' {
@@ -84,25 +63,20 @@ fn says_message(text: &[u8]) -> bool
     are_digits(&text[2..])
 }
 
-fn read_text(text: &[u8]) -> Spoken
+fn read_text(text: &[u8]) -> Option<Spoken>
     ensures { result ≡ read text.now }
 {
     if says_message(text) {
-        return Spoken {
-            message: true,
+        return Some(Spoken {
             line: text[0] - b'0',
             eight: bytes_of(&text[2..]),
-        };
+        });
     }
-    Spoken {
-        message: false,
-        line: 0,
-        eight: [0u8; 8],
-    }
+    None
 }
 
-// What a line says; text is without its newline.
-pub fn line_spoken(text: &[u8]) -> Spoken
+// What a line says, if it is a message; text is without its newline.
+pub fn line_spoken(text: &[u8]) -> Option<Spoken>
     ensures { result ≡ spoken text.now }
 {
     let n = text.len();

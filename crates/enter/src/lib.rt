@@ -5,9 +5,9 @@ ghost use Rattle.std.specs.Prelude.{◌&&◌, ◌||◌, ◌≡◌, ◌+◌, ◌*
 ghost use Rattle.card.specs.Card.{point_1, point_2, fields_of, level_verdict, layout_verdict, first_bad, card_verdict, with_point, with_card};
 ghost use Rattle.card.specs.Asked.{plainly_within, fields_crossed};
 
-use limits::Verdict;
-use table::{kind, place};
-use wire::wide;
+use limits::{Outside, Verdict};
+use table::{Values, kind, place};
+use wire::Number;
 
 // ---- a card's fields
 
@@ -23,7 +23,7 @@ fn fields_1(card: &[u8]) -> [u32; 6]
     requires { length card.now ≡ 33 }
     ensures { result ≡ fields_of card.now point_1 }
 {
-    let head = wide::to_u32(card[0]);
+    let head = u32::from(card[0]);
     let a = bits::word_at(card, 1);
     let b = bits::word_at(card, 5);
     let c = bits::word_at(card, 9);
@@ -43,7 +43,7 @@ fn fields_2(card: &[u8]) -> [u32; 6]
     requires { length card.now ≡ 33 }
     ensures { result ≡ fields_of card.now point_2 }
 {
-    let head = wide::to_u32(card[16]);
+    let head = u32::from(card[16]);
     let a = bits::word_at(card, 17);
     let b = bits::word_at(card, 21);
     let c = bits::word_at(card, 25);
@@ -57,9 +57,9 @@ fn judge_layout(v: u32) -> Verdict
     ensures { result ≡ layout_verdict v }
 {
     if v == 1 {
-        return Verdict::Within;
+        return Ok(());
     }
-    Verdict::NotANumber
+    Err(Outside::NotANumber)
 }
 
 // 0x80000000 and 0xC4BB8000 are the ranks of 0 and 1500: the limits of each level and hysteresis in the table.
@@ -69,24 +69,14 @@ fn judge_level(v: u32) -> Verdict
     limits::judge_number(kind::REAL, 0x80000000, 0xC4BB8000, v)
 }
 
-fn first(a: Verdict, b: Verdict) -> Verdict
-    ensures { result ≡ first_bad a b }
-{
-    match a {
-        Verdict::Within => b,
-        Verdict::NotANumber => Verdict::NotANumber,
-        Verdict::Above => Verdict::Above,
-        Verdict::Below => Verdict::Below,
-    }
-}
-
+// The first that is not within.
 fn judge_levels(a: u32, b: u32, c: u32, d: u32) -> Verdict
     ensures { result ≡ first_bad (level_verdict a) (first_bad (level_verdict b) (first_bad (level_verdict c) (level_verdict d))) }
 {
-    first(
-        judge_level(a),
-        first(judge_level(b), first(judge_level(c), judge_level(d))),
-    )
+    judge_level(a)?;
+    judge_level(b)?;
+    judge_level(c)?;
+    judge_level(d)
 }
 
 // Patterns up to that of 1500 are numbers from 0 to 1500.
@@ -110,26 +100,22 @@ fn plainly_within(fields: [u32; 6]) -> bool
 fn both_within(one: [u32; 6], two: [u32; 6]) -> bool
     ensures { result ≡ (plainly_within one && plainly_within two) }
 {
-    if plainly_within(one) {
-        return plainly_within(two);
-    }
-    false
+    plainly_within(one) && plainly_within(two)
 }
 
-// A whole card: layout, levels and hystereses.
+// A whole card: layout, levels and hystereses, in this order.
 pub fn judge(card: &[u8]) -> Verdict
     requires { length card.now ≡ 33 }
     ensures { result ≡ card_verdict card.now }
 {
-    let layout = judge_layout(wide::to_u32(card[0]) / 16);
+    judge_layout(u32::from(card[0]) / 16)?;
     let one = fields_1(card);
     let two = fields_2(card);
     if both_within(one, two) {
-        return layout;
+        return Ok(());
     }
-    let point_1 = judge_levels(one[2], one[3], one[4], one[5]);
-    let point_2 = judge_levels(two[2], two[3], two[4], two[5]);
-    first(layout, first(point_1, point_2))
+    judge_levels(one[2], one[3], one[4], one[5])?;
+    judge_levels(two[2], two[3], two[4], two[5])
 }
 
 fn point_crossed(fields: [u32; 6]) -> bool
@@ -157,17 +143,17 @@ fn write_point(values: &mut [u8], to: usize, fields: [u32; 6])
     requires { (to + 34 ≤ length values.old) × (get_or fields 0 0 < 2) × (get_or fields 1 0 < 2) }
     ensures { values.new ≡ with_point values.old to fields }
 {
-    wire::put_byte(values, to + place::HIGH_ENABLE, fields[0] as u8);
-    wire::put_byte(values, to + place::LOW_ENABLE, fields[1] as u8);
-    wire::put_word(values, to + place::HIGH_LEVEL, fields[2]);
-    wire::put_word(values, to + place::HIGH_HYSTERESIS, fields[3]);
-    wire::put_word(values, to + place::LOW_LEVEL, fields[4]);
-    wire::put_word(values, to + place::LOW_HYSTERESIS, fields[5]);
+    (fields[0] as u8).put(values, to + place::HIGH_ENABLE);
+    (fields[1] as u8).put(values, to + place::LOW_ENABLE);
+    fields[2].put(values, to + place::HIGH_LEVEL);
+    fields[3].put(values, to + place::HIGH_HYSTERESIS);
+    fields[4].put(values, to + place::LOW_LEVEL);
+    fields[5].put(values, to + place::LOW_HYSTERESIS);
 }
 
 // A whole card into the trip entries.
-pub fn write(values: &mut [u8], card: &[u8])
-    requires { (length values.old ≡ 1024) × (length card.now ≡ 33) }
+pub fn write(values: &mut Values, card: &[u8])
+    requires { length card.now ≡ 33 }
     ensures { values.new ≡ with_card values.old card.now }
 {
     write_point(values, place::SETTINGS_1, fields_1(card));

@@ -10,8 +10,7 @@ use Rattle.table.specs.Row.{Row, REAL, CARD}
 use Rattle.table.specs.Rule.{pick, held}
 use Rattle.table.proofs.Walks.{lt_or_ge}
 use Rattle.table.proofs.Rules.{RowRule}
-use Rattle.limits.specs.Limits.{number_verdict, row_verdict}
-use Rattle.limits.specs.declared.Verdict.TheVariants.{Within}
+use Rattle.limits.specs.Limits.{within, number_verdict, row_verdict}
 use Rattle.limits.proofs.RowVerdicts.{no_number, default_within}
 use Rattle.entry.specs.Entry.{held_by, default_of}
 
@@ -37,7 +36,7 @@ held-most r u =
 -- ---- the default
 
 -- its bytes are within the limits, whatever the row
-pub default_judged : (r : Row) → RowRule r → row_verdict r (default_of r) ≡ Within
+pub default_judged : (r : Row) → RowRule r → row_verdict r (default_of r) ≡ within
 unfolding row_verdict default_of
 default_judged r u =
     ⊎_elim

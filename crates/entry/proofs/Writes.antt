@@ -1,44 +1,59 @@
 -- What the copies and numbers that the code puts come to, in terms of rows: one law for each effect, and one turn of the words.
 use mathlib.Core.Path.{◌≡◌, ◌∙◌}
-use mathlib.Core.List.{List}
-use Prim.Native.Nat.{ℕ, ◌+◌, ◌<◌, ◌≤◌}
-use native.Mathlib.Numerals.{add-one}
-use native.Mathlib.Nat.{le_refl}
+use mathlib.Core.Bool.{Bool}
+use mathlib.Core.List.{List, [], ◌∷◌}
+use mathlib.Core.Logic.{◌⊎◌}
+use Prim.Native.Nat.{ℕ, ◌+◌, ◌-◌, ◌≤◌}
 use native.Mathlib.Omega.{arith}
-use lib.ListN.{length, take, drop, get_or, replicate, drop_of_length-le}
 use lib.Dec.{T, leb, leb→le}
-use lib.Seq.{take_all, drop-cons}
+use lib.ListN.{length, take, drop, replicate}
 use Rattle.wire.specs.Splice.{splice}
 use Rattle.wire.specs.Little.{little}
 use Rattle.table.specs.Row.{Row}
 use Rattle.table.specs.Rule.{held}
-use Rattle.entry.specs.Entry.{entry_of, copied, with_entry}
-use Rattle.entry.specs.Words.{worded, Room}
 use Rattle.table.specs.Walk.{every}
-use Rattle.table.proofs.Walks.{every-at}
+use Rattle.table.proofs.Walks.{both_left, both_right}
+use Rattle.entry.specs.Entry.{entry_of, copied, with_entry}
 
 module _ (r : Row) (values : List ℕ) {x : List ℕ} {p : ℕ} (place : p ≡ r.place) where
-  pub copied_is : {n : ℕ} → n ≡ held r → x ≡ splice (replicate 64 0) 0 (take n (drop p values)) → x ≡ copied r values
+  pub copied_is : {n : ℕ} → n ≡ held r → x ≡ splice (replicate 64 0) 0 (take (p + n - p) (drop p values)) → x ≡ copied r values
   unfolding copied entry_of
-  copied_is n e = e ∙ rw (n, place)
+  copied_is {n} h e =
+      let m : p + n - p ≡ n = omega arith in
+      e ∙ rw (m, h, place)
 
-  pub stored_is : (bytes : List ℕ) → x ≡ splice values p (take (length bytes) (drop 0 bytes)) → x ≡ with_entry r values bytes
+  pub stored_is : (bytes : List ℕ) → x ≡ splice values p bytes → x ≡ with_entry r values bytes
   unfolding with_entry
-  stored_is bytes e = e ∙ rw (take_all (length bytes) bytes (le_refl (length bytes)), place)
+  stored_is bytes e = e ∙ rw place
 
--- the words from i on begin with word i
-module _ (ps ws : List ℕ) (e : length ws ≡ length ps) where
-  pub words_turn : (i : ℕ) (values : List ℕ) {x : List ℕ} {p w : ℕ} → i < length ps → p ≡ get_or ps i 0 → w ≡ get_or ws i 0 → x ≡ splice values p (little 4 w)
-      → worded (drop (i + 1) ps) (drop (i + 1) ws) x ≡ worded (drop i ps) (drop i ws) values
-  unfolding worded
-  words_turn i values h p w q =
-      let k : i < length ws = omega arith in
-      rw (q, p, w, add-one, drop-cons ps i 0 h, drop-cons ws i 0 k)
+-- ---- words of four bytes, put one after the other
 
-  pub words_end : (i : ℕ) (values : List ℕ) → length ps ≤ i → worded (drop i ps) (drop i ws) values ≡ values
-  unfolding worded
-  words_end i values h = rw (drop_of_length-le ps h)
+unfoldable pub worded : List ℕ → List ℕ → List ℕ → List ℕ
+worded [] ws values = values
+worded (p ∷ ps) [] values = values
+worded (p ∷ ps) (w ∷ ws) values = worded ps ws (splice values p (little 4 w))
+
+-- the first of them is put, and the others are still to come
+pub words_turn : (w : ℕ) (ps ws values all : List ℕ) {x qs vs : List ℕ} {p q : ℕ} → q ≡ p → x ≡ splice values q (little 4 w)
+    → qs ≡ p ∷ ps → vs ≡ w ∷ ws → worded qs vs values ≡ all → worded ps ws x ≡ all
+unfolding worded
+words_turn w ps ws values all e h a b k = rw (h, e) (rw (a, b) at k)
+
+-- none are left, of places or of words
+pub words_end : (ps ws values all : List ℕ) → (length ps ≡ 0) ⊎ (length ws ≡ 0) → worded ps ws values ≡ all → values ≡ all
+unfolding worded
+words_end [] ws values all e k = k
+words_end (p ∷ ps) [] values all e k = k
+words_end (p ∷ ps) (w ∷ ws) values all e k = absurd (omega arith)
 
 -- room for each word, as one test
-pub room_by : (ps ws : List ℕ) {n : ℕ} → n ≡ 1024 → length ws ≡ length ps → T (every (λ (p : ℕ). leb (p + 4) 1024) ps) → Room ps ws n
-room_by ps ws n e t = record { alike = e; inside = λ k h. rw n (leb→le _ _ (every-at (λ (p : ℕ). leb (p + 4) 1024) ps 0 t k h)) }
+abbrev pub roomy : List ℕ → Bool
+roomy ps = every (λ (p : ℕ). leb (p + 4) 1024) ps
+
+pub room_first : (p : ℕ) (ps : List ℕ) {qs : List ℕ} → qs ≡ p ∷ ps → T (roomy qs) → p + 4 ≤ 1024
+unfolding every
+room_first p ps e t = leb→le _ _ (both_left (leb (p + 4) 1024) _ (rw e at t))
+
+pub room_rest : (p : ℕ) (ps : List ℕ) {qs : List ℕ} → qs ≡ p ∷ ps → T (roomy qs) → T (roomy ps)
+unfolding every
+room_rest p ps e t = both_right (leb (p + 4) 1024) _ (rw e at t)

@@ -1,3 +1,2 @@
 -- What one row's entry means in the values.
 pub mod Entry
-pub mod Words

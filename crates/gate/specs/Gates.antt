@@ -1,12 +1,10 @@
 -- SHAPE: what the table says of a key before a value is looked at (R7.3, R7.4). Assumes nothing.
-use Rattle.std.specs.Prelude.{◌≡◌, cond, ℕ, eqb}
+use Rattle.std.specs.Prelude.{cond, ℕ, eqb, Result, Ok, Err}
 use Rattle.table.specs.Row.{RO, WO}
 use Rattle.table.specs.Rows.{at_row}
-use Rattle.find.specs.Columns.{shape}
 use Rattle.table.specs.Find.{Found, At, NoIndex, NoSub}
-use Rattle.table.specs.Codes.{index_absent, subindex_absent, write_only, read_only}
-use Rattle.find.specs.declared.Gate.{Gate}
-use Rattle.find.specs.declared.Gate.TheVariants.{Open, Shut}
+use Rattle.table.specs.Codes.{index_absent, subindex_absent, write_only, read_only, code_of}
+use Rattle.table.specs.declared.code.AbortCode.{AbortCode}
 
 -- where a key leads: to a row, or no way, and the code says why
 pub data Way : Type 0 where
@@ -25,12 +23,7 @@ read_gate found = gate WO write_only found
 abbrev pub write_gate : Found → Way
 write_gate found = gate RO read_only found
 
--- ---- the code's enum, which has more than the way: beside the row stands the row's shape
-
-unfoldable pub way_of : Gate → Way
-way_of (Open r s) = to_row r
-way_of (Shut code) = no_way code
-
-unfoldable pub Shaped : Gate → Type 0
-Shaped (Open r s) = s ≡ shape (at_row r)
-Shaped (Shut code) = Unit {0}
+-- as the code says it: a row is its number
+unfoldable pub way_of : Result ℕ AbortCode → Way
+way_of (Ok r) = to_row r
+way_of (Err abort) = no_way (code_of abort)

@@ -5,35 +5,33 @@ pub mod lock;
 
 ghost use Rattle.std.specs.Prelude.{◌≡◌};
 ghost use Rattle.table.specs.Find.{find_row};
-ghost use Rattle.gate.specs.Gates.{gate, read_gate, write_gate, way_of, Shaped};
+ghost use Rattle.table.specs.Access.{access_number};
+ghost use Rattle.table.specs.Codes.{code_of};
+ghost use Rattle.gate.specs.Gates.{gate, read_gate, write_gate, way_of};
 
-use find::{Gate, field};
-use table::{access, code};
+use find::row::Row;
+use table::access::Access;
+use table::code::AbortCode;
 
-// The gate to a row, shut where rows of one access are barred.
-fn way(index: u16, sub: u8, barred: u8, code: u32) -> Gate
-    ensures { (way_of result ≡ gate barred code (find_row index sub)) × Shaped result }
+// The way to a row, refused where rows of one access are barred.
+fn way(index: u16, sub: u8, barred: Access, abort: AbortCode) -> Result<Row, AbortCode>
+    ensures { way_of result ≡ gate (access_number barred) (code_of abort) (find_row index sub) }
 {
-    let found = find::find(index, sub);
-    match found {
-        Gate::Open(row, shape) => {
-            if field::access_in(shape) == barred {
-                return Gate::Shut(code);
-            }
-            Gate::Open(row, shape)
-        }
-        Gate::Shut(absent) => Gate::Shut(absent),
+    let row = find::find(index, sub)?;
+    if row.access() == barred {
+        return Err(abort);
     }
+    Ok(row)
 }
 
-pub fn to_read(index: u16, sub: u8) -> Gate
-    ensures { (way_of result ≡ read_gate (find_row index sub)) × Shaped result }
+pub fn to_read(index: u16, sub: u8) -> Result<Row, AbortCode>
+    ensures { way_of result ≡ read_gate (find_row index sub) }
 {
-    way(index, sub, access::WO, code::WRITE_ONLY)
+    way(index, sub, Access::WriteOnly, AbortCode::WriteOnly)
 }
 
-pub fn to_write(index: u16, sub: u8) -> Gate
-    ensures { (way_of result ≡ write_gate (find_row index sub)) × Shaped result }
+pub fn to_write(index: u16, sub: u8) -> Result<Row, AbortCode>
+    ensures { way_of result ≡ write_gate (find_row index sub) }
 {
-    way(index, sub, access::RO, code::READ_ONLY)
+    way(index, sub, Access::ReadOnly, AbortCode::ReadOnly)
 }

@@ -2,7 +2,6 @@
 use mathlib.Core.Path.{◌≡◌, refl, sym, ap, ◌∙◌}
 use mathlib.Core.Bool.{Bool, true, false, cond, ◌&&◌, ◌||◌, and-false}
 use mathlib.Core.List.{List}
-use mathlib.Core.Logic.{⊎_elim}
 use mathlib.Core.Option.{Option, none, some}
 use Prim.Native.Nat.{ℕ, ◌+◌, ◌<◌, ◌≤◌}
 use native.Mathlib.Omega.{arith}
@@ -21,12 +20,10 @@ use Rattle.table.specs.Rule.{pick, held}
 use Rattle.table.specs.Walk.{every}
 use Rattle.table.specs.Find.{find_row, row_number}
 use Rattle.table.proofs.Table.{lock-found}
-use Rattle.table.proofs.Walks.{same_or_not}
 use Rattle.table.specs.Places.{latched_status, latched_size, latched, is_mask}
-use Rattle.limits.specs.Limits.{verdict_code}
+use Rattle.limits.specs.Limits.{Verdict, within}
 use Rattle.entry.specs.Entry.{entry_of, with_entry}
-use Rattle.limits.specs.declared.Verdict.{Verdict}
-use Rattle.limits.specs.declared.Verdict.TheVariants.{Within}
+use Rattle.std.specs.Prelude.{Ok, Err}
 use Rattle.card.specs.Card.{card_of, with_card}
 use Rattle.card.proofs.RoundTrip.{card_back}
 use Rattle.block.specs.Saved.{loadable, loaded}
@@ -41,12 +38,11 @@ use Rattle.gauge.specs.Masks.{heeding, Summed}
 use Rattle.gauge.specs.Written.{with_value, crosses_1, crosses_2}
 use Rattle.gauge.specs.PowerUp.{block_taken, powered_up}
 use Rattle.gauge.specs.Commands.{done, obeyed}
-use Rattle.gauge.specs.Endings.{left, left_by}
+use Rattle.gauge.specs.Endings.{left_by}
 use Rattle.gauge.specs.Checks.{asked, asked_last, fails, under_lock, Test, verdict_of, last_order, refused_by, unless_refused, code_told}
 use Rattle.gauge.specs.Whole.{value_of, effect, write_by, commit_row}
-use Rattle.gauge.specs.declared.commit.Ending.TheVariants.{Refused}
 use Rattle.gauge.proofs.InOrder.{each_passes}
-use Rattle.gauge.proofs.CommitLaws.{value_card, value_other, effect_other, other_held, card_length, no_code, limits_refuse, card_judged}
+use Rattle.gauge.proofs.CommitLaws.{value_card, value_other, effect_other, other_held, card_length, outside_some, limits_refuse, card_judged}
 use Rattle.gauge.proofs.Flags.{either_false}
 use Rattle.gauge.proofs.WrittenLaws.{written_card, written_entry}
 use Rattle.gauge.proofs.Spared.{spared, spare}
@@ -58,7 +54,7 @@ unfolding fails row_number locked guarded rows
 lock_open s bytes values = rw lock-found
 
 -- what is refused changes nothing
-pub refused_keeps : (row : ℕ) (bytes : List ℕ) (m : Memory) (c : ℕ) → commit_row row bytes m ≡ declined c → left_by m (commit_row row bytes m) ≡ left (Refused c) m.values m.block
+pub refused_keeps : (row : ℕ) (bytes : List ℕ) (m : Memory) (c : ℕ) → commit_row row bytes m ≡ declined c → left_by m (commit_row row bytes m) ≡ record { ending = Err c; values = m.values; block = m.block }
 unfolding left_by
 refused_keeps row bytes m c e = rw e
 
@@ -92,12 +88,13 @@ module _ (row : ℕ) (bytes : List ℕ) (m n : Memory) (done : commit_row row by
   unfolding last_order fails row_number
   accepted_unlocked = each_passes (asked_last row bytes m.values) last_order passed.0 0 (omega arith)
 
-  pub accepted_within : verdict_of (at_row row) bytes ≡ Within
+  pub accepted_within : verdict_of (at_row row) bytes ≡ within
   unfolding unless_refused
-  accepted_within = no_code v (⊎_elim (λ e. e) (λ n. limits_refuse row m.values bytes accepted_unlocked v refl n ∙ ap code_told passed.0) (same_or_not (verdict_code v) 0))
+  accepted_within = go (verdict_of (at_row row) bytes) refl
     where
-      v : Verdict
-      v = verdict_of (at_row row) bytes
+      go : (v : Verdict) → verdict_of (at_row row) bytes ≡ v → v ≡ within
+      go (Ok u) e = refl
+      go (Err o) e = absurd (outside_some o (limits_refuse row m.values bytes accepted_unlocked o e ∙ ap code_told passed.0))
 
   pub accepted_straight : (crosses_1 (at_row row) m.values bytes ≡ false) × (crosses_2 (at_row row) m.values bytes ≡ false)
   accepted_straight = passed_straight row bytes m.values passed.0

@@ -1,17 +1,17 @@
 -- RULE: THE CHECKS of a whole read and of a whole write: named tests in their order (R7.1), each with its code. The first that fails
 -- refuses; what passes them all is served. Assumes nothing.
-use Rattle.std.specs.Prelude.{Bool, true, false, cond, List, [], ◌∷◌, ◌++◌, ℕ, ltb, eqb, length}
+use Rattle.std.specs.Prelude.{Bool, true, false, cond, List, [], ◌∷◌, ◌++◌, ℕ, ltb, eqb, length, Result, Ok, Err}
 use Rattle.std.proofs.Math.Option.{Option, none, some}
 use Rattle.order.specs.Talk.{Said, announced, unsaid, own}
 use Rattle.order.specs.Gauge.{too_long, too_short, counted}
 use Rattle.table.specs.Row.{Row, smallest, largest, RO, WO, CARD}
 use Rattle.table.specs.Rows.{at_row}
 use Rattle.table.specs.Find.{Found, At, NoIndex, NoSub, row_number}
-use Rattle.table.specs.Codes.{index_absent, subindex_absent, write_only, read_only, lock_shut, left_crossed}
+use Rattle.table.specs.Codes.{index_absent, subindex_absent, write_only, read_only, lock_shut, left_crossed, code_of as abort_code}
 use Rattle.gate.specs.Lock.{locked}
-use Rattle.limits.specs.Limits.{verdict_code, row_verdict}
-use Rattle.limits.specs.declared.Verdict.{Verdict}
-use Rattle.limits.specs.declared.Verdict.TheVariants.{NotANumber, Above, Below}
+use Rattle.limits.specs.Limits.{Verdict, verdict_code, row_verdict}
+use Rattle.limits.specs.declared.Outside.TheVariants.{NotANumber, Above, Below}
+use Rattle.table.specs.declared.code.AbortCode.{AbortCode}
 use Rattle.card.specs.Card.{card_verdict}
 use Rattle.gauge.specs.Written.{crosses_1, crosses_2}
 
@@ -82,9 +82,9 @@ code_of announced_short = too_short
 code_of sent_long = too_long
 code_of sent_short = too_short
 code_of under_lock = lock_shut
-code_of no_number = verdict_code NotANumber
-code_of too_high = verdict_code Above
-code_of too_low = verdict_code Below
+code_of no_number = verdict_code (Err NotANumber)
+code_of too_high = verdict_code (Err Above)
+code_of too_low = verdict_code (Err Below)
 code_of crossed_1 = left_crossed
 code_of crossed_2 = left_crossed
 
@@ -126,9 +126,9 @@ fails announced_short a = says_below (smallest (row_asked a)) a.said
 fails sent_long a = ltb (most (largest (row_asked a)) a.said) (length (sent a))
 fails sent_short a = ltb (length (sent a)) (least (smallest (row_asked a)) (largest (row_asked a)) a.said)
 fails under_lock a = locked (row_asked a) a.values
-fails no_number a = judged_as NotANumber a
-fails too_high a = judged_as Above a
-fails too_low a = judged_as Below a
+fails no_number a = judged_as (Err NotANumber) a
+fails too_high a = judged_as (Err Above) a
+fails too_low a = judged_as (Err Below) a
 fails crossed_1 a = crosses_1 (row_asked a) a.values (sent a)
 fails crossed_2 a = crosses_2 (row_asked a) a.values (sent a)
 
@@ -166,3 +166,8 @@ unless_refused (some t) refuse done = refuse (code_of t)
 -- the code that is told, 0 where nothing refuses
 abbrev pub code_told : Option Test → ℕ
 code_told o = unless_refused o (λ code. code) 0
+
+-- as the code says it
+unfoldable pub code_in : Result (Unit {0}) AbortCode → ℕ
+code_in (Ok u) = 0
+code_in (Err abort) = abort_code abort

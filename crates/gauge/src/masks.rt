@@ -1,14 +1,14 @@
 // Masks that come in act on the summary at once.
-ghost use Rattle.std.specs.Prelude.{◌≡◌, length};
+ghost use Rattle.std.specs.Prelude.{◌≡◌};
 ghost use Rattle.gauge.specs.Masks.{heeding};
 
+use table::Values;
+
 // Works the summary out anew if masks came in.
-pub fn heed(values: &mut [u8], came: bool)
-    requires { length values.old ≡ 1024 }
+pub fn heed(values: &mut Values, came: bool)
     ensures { values.new ≡ heeding came values.old }
 {
-    if !came {
-        return;
+    if came {
+        sample::put_summary(values);
     }
-    sample::put_summary(values);
 }

@@ -1,13 +1,13 @@
 // Power-up, and what it shares with a load.
-ghost use Rattle.std.specs.Prelude.{◌≡◌, length};
+ghost use Rattle.std.specs.Prelude.{◌≡◌};
 ghost use Rattle.block.specs.Saved.{loadable};
 ghost use Rattle.gauge.specs.PowerUp.{block_taken, fresh_values};
 
 use crate::masks;
+use table::{Block, Values};
 
 // The NV entries from the saved block, if it is not faulty; its masks act at once.
-pub fn take_block(values: &mut [u8], block: &[u8]) -> bool
-    requires { (length values.old ≡ 1024) × (length block.now ≡ 512) }
+pub fn take_block(values: &mut Values, block: &Block) -> bool
     ensures taken { result ≡ loadable block.now }
     ensures values { values.new ≡ block_taken block.now values.old }
 {
@@ -17,8 +17,7 @@ pub fn take_block(values: &mut [u8], block: &[u8]) -> bool
 }
 
 // Defaults everywhere, then the saved block.
-pub fn fill(values: &mut [u8], block: &[u8])
-    requires { (length values.old ≡ 1024) × (length block.now ≡ 512) }
+pub fn fill(values: &mut Values, block: &Block)
     ensures { values.new ≡ fresh_values block.now }
 {
     entry::put_defaults(values);

@@ -1,16 +1,14 @@
 -- Openings of writes with bytes behind them, by cases as the code takes them: each law takes what the calls ensure. Assumes nothing.
-use mathlib.Core.Path.{◌≡◌, refl, sym, ap, ap₂, ◌∙◌}
-use mathlib.Core.Bool.{Bool, true, false, cond, ◌&&◌, false≢true}
-use mathlib.Core.Logic.{◌⊎◌, inl, inr, ⊎_elim}
+use mathlib.Core.Path.{◌≡◌, refl, sym, ap, ◌∙◌}
+use mathlib.Core.Bool.{Bool, true, false, ◌&&◌, false≢true}
+use mathlib.Core.Logic.{◌⊎◌, inl, inr}
 use mathlib.Core.List.{List, []}
 use mathlib.Core.Option.{some}
 use Prim.Native.Nat.{ℕ, ◌-◌, ◌<◌, ◌≤◌}
 use native.Mathlib.Omega.{arith}
-use lib.Dec.{eqb}
-use lib.ListN.{length, take, drop, replicate, length-drop}
+use lib.ListN.{length, take, drop, length-drop}
 use lib.Seq.{take_all}
 use borrow.Author.Tests.{le-leb, lt-leb, lt-ltb, eqb-true, eqb-false}
-use Rattle.wire.specs.Splice.{splice}
 use Rattle.order.specs.Talk.{Said, announced, unsaid, Request, expedited, open_write, write_opened, refused, Sizes, sizes, closed, Outcome, declined}
 use Rattle.order.specs.Gauge.{too_long, by_length, narrow, narrowed, counted, judged, judged_by, write_whole}
 use Rattle.order.specs.Serve.{keeping, take_more, write_opening, conclude, serve}
@@ -18,17 +16,15 @@ use Rattle.table.specs.Row.{smallest, largest, Allowed}
 use Rattle.table.specs.Rows.{at_row}
 use Rattle.table.specs.Find.{At, find_row}
 use Rattle.table.proofs.Walks.{lt_or_ge}
-use Rattle.find.specs.declared.Gate.{Gate}
-use Rattle.find.specs.declared.Gate.TheVariants.{Shut}
+use Rattle.std.specs.Prelude.{Option, Some, None, is_some, unwrap_or, Err, eqb}
+use Rattle.table.specs.Codes.{code_of}
+use Rattle.table.specs.declared.code.AbortCode.{AbortCode}
 use Rattle.gate.specs.Gates.{write_gate, way_of}
 use Rattle.gauge.specs.Memory.{Store}
 use Rattle.gauge.specs.Whole.{write_sizes}
 use Rattle.sdo.specs.declared.Key.{Key}
 use Rattle.sdo.specs.Eight.{answer_of}
 use Rattle.sdo.specs.Long.{opening_with}
-use Rattle.transfer.specs.declared.Direction.TheVariants.{Writes}
-use Rattle.transfer.specs.declared.Transfer.{Transfer}
-use Rattle.transfer.specs.Turns.{filled, opened_record}
 use Rattle.transfer.specs.Records.{zero_record, zero_record_at, row_of, base}
 use Rattle.transfer.proofs.RecordLaws.{found_number}
 use Rattle.line.specs.Gauge.{plain, store_of}
@@ -42,29 +38,17 @@ too_many : {A : Type 0} (n m : ℕ) (refuse : ℕ → A) (pass : A) → n < m �
 unfolding by_length
 too_many n m refuse pass h = rw (lt-ltb n m h)
 
--- the record that the bytes behind the eight are kept in
-pub begun : (row len : ℕ) (m : List ℕ) {held : List ℕ} {next : Transfer} {count : ℕ} → count ≡ length m - 8 → held ≡ splice (replicate 64 0) 0 (take count (drop 8 m)) → next ≡ opened_record Writes row held len count
-    → next ≡ opened_record Writes row (filled (drop 8 m)) len (length (drop 8 m))
-begun row len m {held} {next} {count} c h n =
-    let l : length (drop 8 m) ≡ count = length-drop 8 m ∙ sym c in
-    n ∙ ap₂ (λ (x : List ℕ) (k : ℕ). opened_record Writes row x len k) (h ∙ ap (splice (replicate 64 0) 0) (take_all count (drop 8 m) (omega (arith, l)))) (sym l)
-
 -- all that stands behind the eight
 pub rest_whole : (m : List ℕ) → take (length m - 8) (drop 8 m) ≡ drop 8 m
 rest_whole m = take_all (length m - 8) (drop 8 m) (omega (arith, length-drop 8 m))
 
--- an opening that is the whole write has a length
-pub whole-count : (sized : Bool) {b : Bool} → (sized && b) ≡ true → b ≡ true
-whole-count true e = e
-whole-count false e = absurd (false≢true e)
-
 -- what is asked, by the bytes that came
 module _ (k : Key) (n : ℕ) (bytes : List ℕ) where
-  all_came : n ≤ length bytes → opening_asked k true n bytes ≡ expedited k (announced n) bytes
+  all_came : n ≤ length bytes → opening_asked k (Some n) bytes ≡ expedited k (announced n) bytes
   unfolding opening_asked opening_with
   all_came h = rw (le-leb n (length bytes) h)
 
-  some_came : length bytes < n → opening_asked k true n bytes ≡ open_write k (some n) bytes
+  some_came : length bytes < n → opening_asked k (Some n) bytes ≡ open_write k (some n) bytes
   unfolding opening_asked opening_with
   some_came h = rw (lt-leb n (length bytes) h)
 
@@ -80,23 +64,30 @@ module _ (at : ℕ) (v b s a : List ℕ) (k : Key) where
   parts_told said bytes z = told_by at s a (spoken_over (zero_record_at (row_of k)) (keeping plain g (write_opening plain k bytes (narrow z said))))
 
   module _ (n : ℕ) (bytes : List ℕ) (z : Sizes) (e : write_sizes k.index k.sub ≡ z) where
-    whole-asked : n ≤ length bytes → {x : Told} → x ≡ whole-told n bytes z → x ≡ asked_told at (opening_asked k true n bytes) v b s a
+    whole-asked : n ≤ length bytes → {x : Told} → x ≡ whole-told n bytes z → x ≡ asked_told at (opening_asked k (Some n) bytes) v b s a
     unfolding base serve write_whole
     whole-asked h q = q ∙ ap (whole-told n bytes) (sym e) ∙ ap (λ (r : Request Key). asked_told at r v b s a) (sym (all_came k n bytes h))
 
-    parts_asked : length bytes < n → {x : Told} → x ≡ parts_told (announced n) bytes z → x ≡ asked_told at (opening_asked k true n bytes) v b s a
+    parts_asked : length bytes < n → {x : Told} → x ≡ parts_told (announced n) bytes z → x ≡ asked_told at (opening_asked k (Some n) bytes) v b s a
     unfolding base serve
     parts_asked h q = q ∙ ap (parts_told (announced n) bytes) (sym e) ∙ ap (λ (r : Request Key). asked_told at r v b s a) (sym (some_came k n bytes h))
 
-    unsized_asked : {x : Told} → x ≡ parts_told unsaid bytes z → x ≡ asked_told at (opening_asked k false n bytes) v b s a
+  module _ (bytes : List ℕ) (z : Sizes) (e : write_sizes k.index k.sub ≡ z) where
+    unsized_asked : {x : Told} → x ≡ parts_told unsaid bytes z → x ≡ asked_told at (opening_asked k None bytes) v b s a
     unfolding opening_asked base serve
     unsized_asked q = q ∙ ap (parts_told unsaid bytes) (sym e)
 
   -- ---- on the row of the key
 
-  module _ (row low high : ℕ) (w : Writable row) (found : find_row k.index k.sub ≡ At row) (l : low ≡ smallest (at_row row)) (h : high ≡ largest (at_row row)) where
+  module _ (row : ℕ) (w : Writable row) (found : find_row k.index k.sub ≡ At row) where
+    abbrev low : ℕ
+    low = smallest (at_row row)
+
+    abbrev high : ℕ
+    high = largest (at_row row)
+
     the_sizes : write_sizes k.index k.sub ≡ sizes low high
-    the_sizes = row-sizes at v b s a [] k row low high w found l h
+    the_sizes = row-sizes at v b s a [] k row w found
 
     row_parts : (bytes : List ℕ) (z : Sizes) {s' a' : List ℕ} → laid s' a' ≡ replied at s a (zero_record_at row) (write_opening plain k bytes z)
         → told v b s' a' ≡ told_by at s a (spoken_over (zero_record_at (row_of k)) (keeping plain g (write_opening plain k bytes z)))
@@ -108,66 +99,70 @@ module _ (at : ℕ) (v b s a : List ℕ) (k : Key) where
 
     row_orders : low ≤ high
     unfolding smallest largest
-    row_orders = omega (arith, l, h)
+    row_orders = omega arith
 
-    module _ (n : ℕ) (bytes : List ℕ) {len : ℕ} {fits : Bool} (f : fits ≡ by_length low high len (λ c. false) true) where
+    module _ (bytes : List ℕ) {len : ℕ} {fits : Bool} (f : fits ≡ by_length low high len (λ c. false) true) where
       meant-fits : {m : ℕ} → len ≡ m → fits ≡ by_length low high m (λ c. false) true
       meant-fits e = f ∙ ap (λ (m : ℕ). by_length low high m (λ c. false) true) e
 
       -- a length that no value of the entry may have
-      pub opening_misfits : (sized : Bool) → len ≡ cond sized n high → fits ≡ false → {s' a' : List ℕ} → laid s' a' ≡ put_down at s a zero_record (answer_of (refused k (misfit_code high len)))
-          → told v b s' a' ≡ asked_told at (opening_asked k sized n bytes) v b s a
+      pub opening_misfits : (o : Option ℕ) → len ≡ unwrap_or o high → fits ≡ false → {s' a' : List ℕ} → laid s' a' ≡ put_down at s a zero_record (answer_of (refused k (misfit_code high len)))
+          → told v b s' a' ≡ asked_told at (opening_asked k o bytes) v b s a
       unfolding narrow
-      opening_misfits true e d {s'} {a'} q = by (lt_or_ge (length bytes) n)
+      opening_misfits (Some n) e d {s'} {a'} q = by (lt_or_ge (length bytes) n)
         where
           told_so : laid s' a' ≡ put_down at s a zero_record (answer_of (refused k (misfit_code high n)))
           told_so = q ∙ ap (λ (m : ℕ). put_down at s a zero_record (answer_of (refused k (misfit_code high m)))) e
 
-          by : (length bytes < n) ⊎ (n ≤ length bytes) → told v b s' a' ≡ asked_told at (opening_asked k true n bytes) v b s a
+          by : (length bytes < n) ⊎ (n ≤ length bytes) → told v b s' a' ≡ asked_told at (opening_asked k (Some n) bytes) v b s a
           by (inl c) = parts_asked n bytes (sizes low high) the_sizes c (row_parts bytes _ (announced-refused at s a k row bytes low high n (meant-fits e) d told_so))
           by (inr c) = whole-asked n bytes (sizes low high) the_sizes c (sized-refused at v b s a k bytes low high n (meant-fits e) d told_so)
-      opening_misfits false e d q = absurd (false≢true (sym d ∙ meant-fits e ∙ let_through low high high (λ c. false) true row_orders (omega arith)))
+      opening_misfits None e d q = absurd (false≢true (sym d ∙ meant-fits e ∙ let_through low high high (λ c. false) true row_orders (omega arith)))
 
       module _ (fit : fits ≡ true) where
         pub meant-allowed : Allowed (at_row row) len
-        meant-allowed = let in-range = within low high len f fit in record { enough = omega (arith, l, in-range.0); not_over = omega (arith, h, in-range.1) }
+        meant-allowed = let in-range = within low high len f fit in record { enough = in-range.0; not_over = in-range.1 }
 
         -- more bytes than that
-        pub opening_over : (sized : Bool) → len ≡ cond sized n high → len < length bytes → {s' a' : List ℕ} → laid s' a' ≡ put_down at s a zero_record (answer_of (refused k too_long))
-            → told v b s' a' ≡ asked_told at (opening_asked k sized n bytes) v b s a
+        pub opening_over : (o : Option ℕ) → len ≡ unwrap_or o high → len < length bytes → {s' a' : List ℕ} → laid s' a' ≡ put_down at s a zero_record (answer_of (refused k too_long))
+            → told v b s' a' ≡ asked_told at (opening_asked k o bytes) v b s a
         unfolding narrow narrowed judged_by judged counted conclude
-        opening_over true e c q =
+        opening_over (Some n) e c q =
             let in-range = within low high n (meant-fits e) fit in
             let over : by_length n n (length bytes) declined (plain.commit g k bytes) ≡ declined too_long = too_many n (length bytes) declined (plain.commit g k bytes) (omega (arith, e, c)) in
             whole-asked n bytes (sizes low high) the_sizes (omega (arith, e, c))
             (over-told at s a v b zero_record (refused k too_long) refl q
             ∙ ap (λ (o : Outcome Store). told_by at s a (spoken_over zero_record (conclude plain g k (write_opened k) o))) (sym over)
             ∙ ap (λ (z : Sizes). told_by at s a (spoken_over zero_record (conclude plain g k (write_opened k) (judged_by plain g k (announced n) bytes z)))) (sym (let_through low high n closed (sizes n n) in-range.0 in-range.1)))
-        opening_over false e c q = unsized_asked n bytes (sizes low high) the_sizes (row_parts bytes (sizes low high) (parts_over bytes (omega (arith, e, c)) q))
+        opening_over None e c q = unsized_asked bytes (sizes low high) the_sizes (row_parts bytes (sizes low high) (parts_over bytes (omega (arith, e, c)) q))
 
         -- all of it
-        pub opening_whole : {count : ℕ} → length bytes ≡ count → (sized : Bool) → len ≡ cond sized n high → (sized && eqb len count) ≡ true
-            → {x : Told} {value : List ℕ} → value ≡ bytes → x ≡ told_by at s a (spoken_over zero_record (conclude plain g k (write_opened k) (plain.commit g k value)))
-            → x ≡ asked_told at (opening_asked k sized n bytes) v b s a
+        pub whole-length : (o : Option ℕ) → len ≡ unwrap_or o high → (is_some o && eqb len (length bytes)) ≡ true → len ≡ length bytes
+        whole-length (Some n) e c = eqb-true len (length bytes) c
+        whole-length None e c = absurd (false≢true c)
+
+        pub opening_whole : (o : Option ℕ) → len ≡ unwrap_or o high → (is_some o && eqb len (length bytes)) ≡ true
+            → {x : Told} → x ≡ told_by at s a (spoken_over zero_record (conclude plain g k (write_opened k) (plain.commit g k bytes)))
+            → x ≡ asked_told at (opening_asked k o bytes) v b s a
         unfolding narrow
-        opening_whole {count} came true e c i q =
-            let m : len ≡ count = eqb-true len count c in
-            whole-asked n bytes (sizes low high) the_sizes (omega (arith, e, m, came)) (sized-right at v b s a k bytes low high n (meant-fits e) fit (omega (arith, e, m, came)) i q)
-        opening_whole came false e c i q = absurd (false≢true c)
+        opening_whole (Some n) e c q =
+            let m : n ≡ length bytes = sym e ∙ eqb-true len (length bytes) c in
+            whole-asked n bytes (sizes low high) the_sizes (omega (arith, m)) (sized-right at v b s a k bytes low high n (meant-fits e) fit (sym m) refl q)
+        opening_whole None e c q = absurd (false≢true c)
 
         -- a part of it, or no length to tell by
-        pub opening_begun : {count : ℕ} → length bytes ≡ count → (sized : Bool) → len ≡ cond sized n high → (sized && eqb len count) ≡ false → count ≤ len
+        pub opening_begun : (o : Option ℕ) → len ≡ unwrap_or o high → (is_some o && eqb len (length bytes)) ≡ false → length bytes ≤ len
             → {s' a' : List ℕ} → laid s' a' ≡ replied at s a (zero_record_at row) (write_opening plain k bytes (sizes len len))
-            → told v b s' a' ≡ asked_told at (opening_asked k sized n bytes) v b s a
+            → told v b s' a' ≡ asked_told at (opening_asked k o bytes) v b s a
         unfolding narrow narrowed
-        opening_begun {count} came true e c m q =
-            parts_asked n bytes (sizes low high) the_sizes (fewer (eqb-false len count c))
+        opening_begun (Some n) e c m q =
+            parts_asked n bytes (sizes low high) the_sizes (fewer (eqb-false len (length bytes) c))
             (row_parts bytes _ (announced-right at s a k row bytes low high n (meant-fits e) fit (rw e at q)))
           where
-            fewer : (len ≡ count → ⊥) → length bytes < n
-            fewer ne = ⊎_elim (λ z. omega (arith, e, z, came)) (λ z. absurd (ne (omega (arith, m, z)))) (lt_or_ge count len)
-        opening_begun came false e c m q =
-            unsized_asked n bytes (sizes low high) the_sizes (row_parts bytes _ (rw e at q ∙ smallest_forgotten at s a k row bytes low high))
+            fewer : (len ≡ length bytes → ⊥) → length bytes < n
+            fewer ne = omega (arith, e, m, ne)
+        opening_begun None e c m q =
+            unsized_asked bytes (sizes low high) the_sizes (row_parts bytes _ (rw e at q ∙ smallest_forgotten at s a k row bytes low high))
 
     -- the value in the eight bytes
     pub opening_value : (said : Said) (bytes : List ℕ) {x : Told}
@@ -176,20 +171,22 @@ module _ (at : ℕ) (v b s a : List ℕ) (k : Key) where
     opening_value said bytes q = q ∙ ap (λ (z : Sizes). told_by at s a (spoken_over zero_record (conclude plain g k (write_opened k) (judged_by plain g k said bytes (narrow z said))))) (sym the_sizes)
 
   -- there is no way to a row
-  pub value_shut : (said : Said) (bytes : List ℕ) (code : ℕ) {gate : Gate} → way_of gate ≡ write_gate (find_row k.index k.sub) → gate ≡ Shut code
-      → {s' a' : List ℕ} → laid s' a' ≡ put_down at s a zero_record (answer_of (refused k code)) → told v b s' a' ≡ asked_told at (expedited k said bytes) v b s a
-  unfolding narrow judged_by conclude base serve write_whole
-  value_shut said bytes code way e q =
-      over-told at s a v b zero_record (refused k code) refl q
-      ∙ ap (λ (z : Sizes). told_by at s a (spoken_over zero_record (conclude plain g k (write_opened k) (judged_by plain g k said bytes (narrow z said))))) (sym (shut_sizes k way code e))
+  module _ (abort : AbortCode) (way : way_of (Err abort) ≡ write_gate (find_row k.index k.sub)) {s' a' : List ℕ} (q : laid s' a' ≡ put_down at s a zero_record (answer_of (refused k (code_of abort)))) where
+    abbrev code : ℕ
+    code = code_of abort
 
-  pub opening_shut : (sized : Bool) (n : ℕ) (bytes : List ℕ) (code : ℕ) {gate : Gate} → way_of gate ≡ write_gate (find_row k.index k.sub) → gate ≡ Shut code
-      → {s' a' : List ℕ} → laid s' a' ≡ put_down at s a zero_record (answer_of (refused k code)) → told v b s' a' ≡ asked_told at (opening_asked k sized n bytes) v b s a
-  unfolding narrow judged_by conclude write_opening
-  opening_shut true n bytes code way e {s'} {a'} q = by (lt_or_ge (length bytes) n)
-    where
-      by : (length bytes < n) ⊎ (n ≤ length bytes) → told v b s' a' ≡ asked_told at (opening_asked k true n bytes) v b s a
-      by (inl c) = parts_asked n bytes (closed code) (shut_sizes k way code e) c (over-told at s a v b (zero_record_at (row_of k)) (refused k code) refl q)
-      by (inr c) = whole-asked n bytes (closed code) (shut_sizes k way code e) c (over-told at s a v b zero_record (refused k code) refl q)
-  opening_shut false n bytes code way e q =
-      unsized_asked n bytes (closed code) (shut_sizes k way code e) (over-told at s a v b (zero_record_at (row_of k)) (refused k code) refl q)
+    pub value_shut : (said : Said) (bytes : List ℕ) → told v b s' a' ≡ asked_told at (expedited k said bytes) v b s a
+    unfolding narrow judged_by conclude base serve write_whole
+    value_shut said bytes =
+        over-told at s a v b zero_record (refused k code) refl q
+        ∙ ap (λ (z : Sizes). told_by at s a (spoken_over zero_record (conclude plain g k (write_opened k) (judged_by plain g k said bytes (narrow z said))))) (sym (shut_sizes k abort way))
+
+    pub opening_shut : (o : Option ℕ) (bytes : List ℕ) → told v b s' a' ≡ asked_told at (opening_asked k o bytes) v b s a
+    unfolding narrow judged_by conclude write_opening
+    opening_shut (Some n) bytes = by (lt_or_ge (length bytes) n)
+      where
+        by : (length bytes < n) ⊎ (n ≤ length bytes) → told v b s' a' ≡ asked_told at (opening_asked k (Some n) bytes) v b s a
+        by (inl c) = parts_asked n bytes (closed code) (shut_sizes k abort way) c (over-told at s a v b (zero_record_at (row_of k)) (refused k code) refl q)
+        by (inr c) = whole-asked n bytes (closed code) (shut_sizes k abort way) c (over-told at s a v b zero_record (refused k code) refl q)
+    opening_shut None bytes =
+        unsized_asked bytes (closed code) (shut_sizes k abort way) (over-told at s a v b (zero_record_at (row_of k)) (refused k code) refl q)

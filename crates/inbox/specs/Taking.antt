@@ -1,5 +1,5 @@
 -- SHAPE: what the functions of writes by mailbox are held to: requests as crate order serves them, sent in SDOs of 8 to 120 bytes. Assumes nothing.
-use Rattle.std.specs.Prelude.{ℕ, Bool, cond, List, length}
+use Rattle.std.specs.Prelude.{ℕ, List, length, Option, Some, None}
 use Rattle.std.proofs.Math.Option.{none}
 use Rattle.order.specs.Talk.{Request, open_write}
 use Rattle.order.specs.Serve.{serve}
@@ -27,6 +27,7 @@ asked_told at q values block state room =
     told_by at state room (spoken_over (base (record_at state at) q) (serve plain long_form (store_of values block state) (view (record_at state at)) q))
 
 -- an opening with bytes behind it, its length announced or not
-unfoldable pub opening_asked : Key → Bool → ℕ → List ℕ → Request Key
+unfoldable pub opening_asked : Key → Option ℕ → List ℕ → Request Key
 unfolding opening_with
-opening_asked k sized n bytes = cond sized (opening_with k n bytes) (open_write k none bytes)
+opening_asked k (Some n) bytes = opening_with k n bytes
+opening_asked k None bytes = open_write k none bytes

@@ -1,10 +1,11 @@
--- Laws of the verdicts: by kind, by rank, and what `Within` says.
+-- Laws of the verdicts: by kind, by rank, and what `within` says.
 use mathlib.Core.Path.{◌≡◌, refl, sym, ◌∙◌}
 use mathlib.Core.Bool.{Bool, true, false}
 use mathlib.Core.Logic.{⊎_elim}
 use Prim.Native.Nat.{ℕ, ◌+◌, ◌-◌, ◌<◌, ◌≤◌}
 use native.Mathlib.Nat.{eq-or-lt_of_le}
 use native.Mathlib.Omega.{arith}
+use Rattle.std.specs.Prelude.{Err}
 use lib.Dec.{ltb}
 use lib.Ieee.{binary32, is_nan, of_bits}
 use lib.Ieee.Bits.{nan_bits_is, nan_bits_above}
@@ -12,9 +13,9 @@ use borrow.Author.Tests.{lt-ltb, le-ltb, le-leb, lt-leb, eq-eqb, ne_eqb, ltb-fal
 use Rattle.table.specs.Row.{REAL}
 use Rattle.table.specs.Rule.{pick, rank, real_rank}
 use Rattle.table.proofs.Walks.{lt_or_ge}
-use Rattle.limits.specs.Limits.{first_fault, whole_verdict, real_verdict, by_kind, kind_verdict}
+use Rattle.limits.specs.Limits.{within, first_fault, whole_verdict, real_verdict, by_kind, kind_verdict}
 use Rattle.limits.specs.Ranks.{rank_verdict}
-use Rattle.limits.specs.declared.Verdict.TheVariants.{Within, NotANumber}
+use Rattle.limits.specs.declared.Outside.TheVariants.{NotANumber}
 use Rattle.limits.proofs.Real.{magnitude, real_lt}
 
 -- 32 bits that are no NaN's
@@ -53,13 +54,13 @@ module _ (k low high v : ℕ) where
   unfolding kind_verdict by_kind
   kind-real h = simp (le-ltb k REAL (omega arith), eq-eqb k REAL h)
 
-  pub kind_none : REAL < k → Within ≡ kind_verdict k low high v
+  pub kind_none : REAL < k → within ≡ kind_verdict k low high v
   unfolding kind_verdict by_kind
   kind_none h = simp (le-ltb k REAL (omega arith), ne_eqb k REAL (λ e. omega arith))
 
 -- a verdict by limits that are ranks
 module _ (k low high v : ℕ) where
-  pub rank_nan : k ≡ REAL → 2139095040 < magnitude v → NotANumber ≡ rank_verdict k low high v
+  pub rank_nan : k ≡ REAL → 2139095040 < magnitude v → Err NotANumber ≡ rank_verdict k low high v
   unfolding rank_verdict first_fault
   rank_nan e n = simp (le-leb k REAL (omega arith), eq-eqb k REAL e, nan_is v, lt-ltb 2139095040 (magnitude v) n)
 
@@ -70,7 +71,7 @@ module _ (k low high v : ℕ) where
       (λ l. simp (le-leb k REAL h, ne_eqb k REAL (λ e. omega arith)))
       (eq-or-lt_of_le h)
 
-  pub rank_none : REAL < k → Within ≡ rank_verdict k low high v
+  pub rank_none : REAL < k → within ≡ rank_verdict k low high v
   unfolding rank_verdict
   rank_none h = simp (lt-leb k REAL h)
 
@@ -85,25 +86,25 @@ by_ranks k low high v p =
     (eq-or-lt_of_le g))
     (lt_or_ge REAL k)
 
--- `Within` says that none of the three faults is there
-no_fault : (n a b : Bool) → first_fault n a b ≡ Within → (a ≡ false) × (b ≡ false)
+-- `within` says that none of the three faults is there
+no_fault : (n a b : Bool) → first_fault n a b ≡ within → (a ≡ false) × (b ≡ false)
 unfolding first_fault
 no_fault true a b e = absurd (let z : ◌≡◌ {A = ℕ} 0 1 = cc in omega arith)
 no_fault false true b e = absurd (let z : ◌≡◌ {A = ℕ} 0 1 = cc in omega arith)
 no_fault false false true e = absurd (let z : ◌≡◌ {A = ℕ} 0 1 = cc in omega arith)
 no_fault false false false e = (refl, refl)
 
-pub whole-between : (low high v : ℕ) → low ≤ v → v ≤ high → whole_verdict low high v ≡ Within
+pub whole-between : (low high v : ℕ) → low ≤ v → v ≤ high → whole_verdict low high v ≡ within
 unfolding whole_verdict first_fault
 whole-between low high v a b = simp (le-ltb high v b, le-ltb v low a)
 
 -- So a number whose rank lies between those of the limits is within them, and a number within them has such a rank.
 module _ (k low high v : ℕ) (h : k ≤ REAL) (p : k ≡ REAL → Patterns low high v) where
-  pub rank-within : (k ≡ REAL → magnitude v ≤ 2139095040) → rank k low ≤ rank k v → rank k v ≤ rank k high → kind_verdict k low high v ≡ Within
+  pub rank-within : (k ≡ REAL → magnitude v ≤ 2139095040) → rank k low ≤ rank k v → rank k v ≤ rank k high → kind_verdict k low high v ≡ within
   rank-within n a b =
       sym (by_ranks k low high v p) ∙ sym (rank-number k (rank k low) (rank k high) v h n) ∙ whole-between (rank k low) (rank k high) (rank k v) a b
 
-  pub within-rank : kind_verdict k low high v ≡ Within → (rank k low ≤ rank k v) × (rank k v ≤ rank k high)
+  pub within-rank : kind_verdict k low high v ≡ within → (rank k low ≤ rank k v) × (rank k v ≤ rank k high)
   unfolding rank_verdict
   within-rank e =
       let f = no_fault _ _ _ (simp (le-leb k REAL h) at (by_ranks k low high v p ∙ e)) in

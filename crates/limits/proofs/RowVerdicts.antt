@@ -15,8 +15,7 @@ use Rattle.table.proofs.Walks.{lt_or_ge}
 use Rattle.table.proofs.Rules.{RowRule}
 use Rattle.table.proofs.Widths.{ulint_width, real-width}
 use Rattle.limits.specs.Ranks.{rank_verdict}
-use Rattle.limits.specs.Limits.{number_len, number_verdict, row_verdict}
-use Rattle.limits.specs.declared.Verdict.TheVariants.{Within}
+use Rattle.limits.specs.Limits.{within, number_len, number_verdict, row_verdict}
 use Rattle.limits.proofs.LimitsLaws.{Patterns, kind-whole, kind_none, by_ranks, whole-between, rank-within, within-rank, rank_other}
 use Rattle.limits.proofs.NumberLaws.{number_long}
 
@@ -45,7 +44,7 @@ verdict_from r u kind low high v short =
     rw (kind, low, high) (by_ranks r.kind r.low r.high v (λ e. real_patterns r u v e short))
 
 -- a row that is no number is within, whatever number is asked
-pub no_number : (r : Row) (v : ℕ) → REAL < r.kind → Within ≡ number_verdict r v
+pub no_number : (r : Row) (v : ℕ) → REAL < r.kind → within ≡ number_verdict r v
 unfolding number_verdict
 no_number r v h = kind_none r.kind r.low r.high v h
 
@@ -68,14 +67,14 @@ module _ (r : Row) (u : RowRule r) (bytes : List ℕ) (long : length bytes ≡ r
     bytes_verdict e = ap (number_verdict r) (e ∙ ap (number bytes 0) (sym len_is) ∙ whole)
 
   -- a ULINT takes them all, and so does what is no number
-  ulint_within : Bytes bytes → r.kind ≡ ULINT → Within ≡ row_verdict r bytes
+  ulint_within : Bytes bytes → r.kind ≡ ULINT → within ≡ row_verdict r bytes
   unfolding row_verdict number_verdict
   ulint_within b e =
       let n : from_little bytes < 2 ^ 64 = rw (whole, ulint_width r u e) at (number_lt bytes 0 r.len b) in
       sym (sym (kind-whole r.kind r.low r.high (from_little bytes) (omega arith))
       ∙ whole-between r.low r.high (from_little bytes) (omega (arith, u.ulint_low e)) (omega (arith, u.ulint_high e)))
 
-  pub all-within : Bytes bytes → ULINT ≤ k → (k ≡ REAL → ⊥) → Within ≡ row_verdict r bytes
+  pub all-within : Bytes bytes → ULINT ≤ k → (k ≡ REAL → ⊥) → within ≡ row_verdict r bytes
   unfolding row_verdict
   all-within b g d =
       ⊎_elim (λ l. ulint_within b (omega arith)) (λ n. no_number r _ (omega arith)) (lt_or_ge k REAL)
@@ -100,7 +99,7 @@ between-finite low high v l h w fl fh a b =
 
 -- a number is within the limits of its row where its rank lies between theirs
 module _ (r : Row) (u : RowRule r) (h : r.kind ≤ REAL) (v : ℕ) (short : r.kind ≡ REAL → v < 4294967296) where
-  pub ranked_within : rank r.kind r.low ≤ rank r.kind v → rank r.kind v ≤ rank r.kind r.high → number_verdict r v ≡ Within
+  pub ranked_within : rank r.kind r.low ≤ rank r.kind v → rank r.kind v ≤ rank r.kind r.high → number_verdict r v ≡ within
   unfolding number_verdict rank pick
   ranked_within a b =
       rank-within r.kind r.low r.high v h (λ e. real_patterns r u v e (short e))
@@ -109,18 +108,18 @@ module _ (r : Row) (u : RowRule r) (h : r.kind ≤ REAL) (v : ℕ) (short : r.ki
       (simp (eq-eqb r.kind REAL e) at a) (simp (eq-eqb r.kind REAL e) at b))
       a b
 
-  pub within_ranked : number_verdict r v ≡ Within → (rank r.kind r.low ≤ rank r.kind v) × (rank r.kind v ≤ rank r.kind r.high)
+  pub within_ranked : number_verdict r v ≡ within → (rank r.kind r.low ≤ rank r.kind v) × (rank r.kind v ≤ rank r.kind r.high)
   unfolding number_verdict
   within_ranked e = within-rank r.kind r.low r.high v h (λ q. real_patterns r u v q (short q)) e
 
 -- ---- the default
 
-pub default_within : (r : Row) → RowRule r → r.kind ≤ REAL → number_verdict r r.def ≡ Within
+pub default_within : (r : Row) → RowRule r → r.kind ≤ REAL → number_verdict r r.def ≡ within
 default_within r u h =
     ranked_within r u h r.def (λ e. rw (real-width r u e) at (u.def-fits h)) u.def-low u.def-high
 
 -- a BOOL row that is within its limits holds 0 or 1
-pub bool_within : (r : Row) (v : ℕ) → r.kind ≡ BOOL → r.high ≤ 1 → number_verdict r v ≡ Within → v ≤ 1
+pub bool_within : (r : Row) (v : ℕ) → r.kind ≡ BOOL → r.high ≤ 1 → number_verdict r v ≡ within → v ≤ 1
 unfolding number_verdict
 bool_within r v k h e =
     let w = (within-rank r.kind r.low r.high v (omega arith) (λ q. absurd (omega arith)) e).1 in

@@ -1,25 +1,39 @@
 -- RULE: what a value is to the limits of its row (R2.4).
-use Rattle.std.specs.Prelude.{Bool, true, false, cond, List, ℕ, eqb, leb, ltb}
+use Rattle.std.specs.Prelude.{Bool, true, false, cond, List, ℕ, eqb, leb, ltb, Result, Ok, Err}
 use Rattle.std.specs.Float.{binary32}
 use Rattle.std.specs.Float.Ieee.{lt, is_nan, of_bits}
 use Rattle.wire.specs.Little.{from_little}
 use Rattle.table.specs.Row.{Row, USINT, UINT, REAL}
-use Rattle.limits.specs.declared.Verdict.{Verdict}
-use Rattle.limits.specs.declared.Verdict.TheVariants.{Within, NotANumber, Above, Below}
+use Rattle.limits.specs.declared.Outside.{Outside}
+use Rattle.limits.specs.declared.Outside.TheVariants.{NotANumber, Above, Below}
+use Rattle.table.specs.declared.code.AbortCode.{AbortCode}
+use Rattle.table.specs.declared.code.AbortCode.TheVariants.{NotANumber as NoNumber, TooHigh, TooLow}
 
--- the code of each verdict (R2.4)
+abbrev pub Verdict : Type 0
+Verdict = Result (Unit {0}) Outside
+
+abbrev pub within : Verdict
+within = Ok tt
+
+-- what is refused for it
+unfoldable pub abort_for : Outside → AbortCode
+abort_for NotANumber = NoNumber
+abort_for Above = TooHigh
+abort_for Below = TooLow
+
+-- the code of each verdict (R2.4), 0 for none
 unfoldable pub verdict_code : Verdict → ℕ
-verdict_code Within = 0
-verdict_code NotANumber = 0x06090030
-verdict_code Above = 0x06090031
-verdict_code Below = 0x06090032
+verdict_code (Ok u) = 0
+verdict_code (Err NotANumber) = 0x06090030
+verdict_code (Err Above) = 0x06090031
+verdict_code (Err Below) = 0x06090032
 
 -- not a number, above the highest, below the lowest: the first that holds decides
 unfoldable pub first_fault : Bool → Bool → Bool → Verdict
-first_fault true above below = NotANumber
-first_fault false true below = Above
-first_fault false false true = Below
-first_fault false false false = Within
+first_fault true above below = Err NotANumber
+first_fault false true below = Err Above
+first_fault false false true = Err Below
+first_fault false false false = within
 
 -- a whole number goes by size
 unfoldable pub whole_verdict : ℕ → ℕ → ℕ → Verdict
@@ -34,7 +48,7 @@ real_verdict low high v =
 unfoldable pub by_kind : Bool → Bool → ℕ → ℕ → ℕ → Verdict
 by_kind true real low high v = whole_verdict low high v
 by_kind false true low high v = real_verdict low high v
-by_kind false false low high v = Within
+by_kind false false low high v = within
 
 unfoldable pub kind_verdict : ℕ → ℕ → ℕ → ℕ → Verdict
 kind_verdict kind low high v = by_kind (ltb kind REAL) (eqb kind REAL) low high v

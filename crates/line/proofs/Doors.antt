@@ -1,30 +1,36 @@
 -- Where a gate leads, and what an open one gives its caller. Assumes nothing.
-use mathlib.Core.Path.{◌≡◌, refl, sym, ap, ◌∙◌}
-use Prim.Native.Nat.{ℕ, ◌<◌}
-use Rattle.table.specs.Rows.{at_row, row_count}
-use Rattle.find.specs.Columns.{shape}
+use mathlib.Core.Path.{◌≡◌, refl, sym}
+use mathlib.Core.Bool.{Bool, true, false, cond}
+use Prim.Native.Nat.{ℕ}
+use Rattle.std.specs.Prelude.{Option, Some, None, Ok, Err}
+use Rattle.table.specs.Codes.{code_of}
+use Rattle.table.specs.declared.code.AbortCode.{AbortCode}
 use Rattle.table.specs.Find.{find_row}
-use Rattle.table.proofs.Table.{find_at}
-use Rattle.gate.specs.Gates.{to_row, no_way, gate, way_of, Shaped}
-use Rattle.find.specs.declared.Gate.{Gate}
-use Rattle.find.specs.declared.Gate.TheVariants.{Open, Shut}
-use Rattle.gate.proofs.GateLaws.{gate-opened, shaped}
+use Rattle.gate.specs.Gates.{to_row, no_way, gate, way_of}
+use Rattle.gate.proofs.GateLaws.{gate-opened}
 use Rattle.sdo.specs.declared.Key.{Key}
 use Rattle.transfer.specs.Records.{key_at}
 use Rattle.transfer.proofs.RecordLaws.{found-key}
 
 -- what the code calls a gate leads where the definition says
-module _ (barred code : ℕ) (k : Key) {g : Gate} (way : way_of g ≡ gate barred code (find_row k.index k.sub)) where
-  pub leads : (row s : ℕ) → g ≡ Open row s → gate barred code (find_row k.index k.sub) ≡ to_row row
+module _ (barred code : ℕ) (k : Key) where
+  pub leads : (row : ℕ) → way_of (Ok row) ≡ gate barred code (find_row k.index k.sub) → gate barred code (find_row k.index k.sub) ≡ to_row row
   unfolding way_of
-  leads row s q = sym way ∙ ap way_of q
+  leads row way = sym way
 
-  pub stops : (c : ℕ) → g ≡ Shut c → gate barred code (find_row k.index k.sub) ≡ no_way c
+  pub stops : (abort : AbortCode) → way_of (Err abort) ≡ gate barred code (find_row k.index k.sub) → gate barred code (find_row k.index k.sub) ≡ no_way (code_of abort)
   unfolding way_of
-  stops c q = sym way ∙ ap way_of q
+  stops abort way = sym way
 
-  -- what an open gate gives its caller: the row is in the table, the key is the row's, the shape too
-  pub open_row : (row s : ℕ) → Shaped g → g ≡ Open row s → (row < row_count) × (k ≡ key_at row) × (s ≡ shape (at_row row))
-  open_row row s h q =
-      let o = gate-opened barred code k.index k.sub row (find_row k.index k.sub) refl (leads row s q) in
-      ((find_at k.index k.sub row o.found).there, found-key k row o.found, shaped row s h q)
+  -- the key is the row's
+  pub opened_key : (row : ℕ) → way_of (Ok row) ≡ gate barred code (find_row k.index k.sub) → k ≡ key_at row
+  opened_key row way = found-key k row (gate-opened barred code k.index k.sub row (find_row k.index k.sub) refl (leads row way)).found
+
+-- what is given under a test
+pub some_when : {A : Type 0} {o : Option A} (b : Bool) (x y : A) → o ≡ cond b (Some x) None → o ≡ Some y → (b ≡ true) × (y ≡ x)
+some_when true x y e q = (refl, cc)
+some_when false x y e q = cc
+
+pub none_when : {A : Type 0} {o : Option A} (b : Bool) (x : A) → o ≡ cond b (Some x) None → o ≡ None → b ≡ false
+none_when true x e q = cc
+none_when false x e q = refl

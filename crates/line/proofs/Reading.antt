@@ -14,10 +14,10 @@ use Rattle.order.specs.Serve.{Form, toggle_code, Reply, over, read_opening, give
 use Rattle.table.specs.Row.{WO, CARD}
 use Rattle.table.specs.Rows.{at_row, row_count}
 use Rattle.table.specs.Find.{find_row}
-use Rattle.table.specs.Codes.{write_only}
+use Rattle.table.specs.Codes.{write_only, code_of}
 use Rattle.gate.specs.Gates.{read_gate, way_of}
-use Rattle.find.specs.declared.Gate.{Gate}
-use Rattle.find.specs.declared.Gate.TheVariants.{Open, Shut}
+use Rattle.std.specs.Prelude.{Ok, Err}
+use Rattle.table.specs.declared.code.AbortCode.{AbortCode}
 use Rattle.gate.proofs.GateLaws.{gate-opened}
 use Rattle.gauge.specs.Whole.{value_of, read_whole}
 use Rattle.gauge.proofs.ByGate.{read_through, read_by_gate}
@@ -29,16 +29,13 @@ use Rattle.transfer.specs.declared.Transfer.{Transfer}
 use Rattle.transfer.specs.Records.{zero_record, zero_record_at, key_at, row_of, view, counts}
 use Rattle.transfer.specs.Turns.{is_reading, filled, opened_record, turned}
 use Rattle.transfer.proofs.RecordLaws.{found_number, view-reading, no_reading, lay-reading, lay-opened, filled-value, part-within}
-use Rattle.state.specs.State.{record_bytes}
+use Rattle.state.specs.State.{record_at, record_bytes}
 use Rattle.line.specs.Gauge.{bag552, plain, store_of}
 use Rattle.line.specs.Serving.{Laid, laid, put_down, replied}
 use Rattle.line.proofs.Told.{over-replied, onwards-replied}
 use Rattle.line.proofs.Doors.{leads, stops}
 
 -- ---- replies in the lent bytes
-
-pub answer_put : (a e : List ℕ) {a' : List ℕ} → length e ≡ 8 → a' ≡ splice a 0 (take 8 (drop 0 e)) → a' ≡ splice a 0 e
-answer_put a e n q = q ∙ ap (splice a 0) (take_all 8 e (omega arith))
 
 module _ (at : ℕ) (s a : List ℕ) where
   pub both_put : (t : Transfer) (e : List ℕ) {s' a' : List ℕ} → s' ≡ splice s at (record_bytes t) → a' ≡ splice a 0 e → laid s' a' ≡ put_down at s a t e
@@ -77,16 +74,21 @@ module _ (F : Form) (t : Transfer) (u : Bool) (reads : (is_reading t.direction &
   unfolding read_part
   part-drops h = sym (rw (view-reading t reads, h))
 
-module _ (at : ℕ) (s a : List ℕ) (t : Transfer) (u : Bool) {x : Laid} where
+module _ (at : ℕ) (s a : List ℕ) (u : Bool) where
+  abbrev next : Transfer → Laid
+  next r = replied at s a r (read_part plain eight (view r) u)
+
+module _ (at : ℕ) (s a : List ℕ) (t : Transfer) (u : Bool) (held : t ≡ record_at s at) {x : Laid} where
   module _ (reads : (is_reading t.direction && counts t) ≡ true) where
-    pub next_given : beq t.toggle u ≡ true → x ≡ replied at s a t (give_part plain eight (key_at t.row) (take t.len t.held) t.place t.toggle) → x ≡ replied at s a t (read_part plain eight (view t) u)
-    next_given h p = p ∙ ap (replied at s a t) (part_goes eight t u reads h)
+    pub next_given : beq t.toggle u ≡ true → x ≡ replied at s a t (give_part plain eight (key_at t.row) (take t.len t.held) t.place t.toggle) → x ≡ next at s a u (record_at s at)
+    next_given h p = p ∙ ap (replied at s a t) (part_goes eight t u reads h) ∙ ap (next at s a u) held
 
-    pub next-dropped : beq t.toggle u ≡ false → x ≡ put_down at s a zero_record (answer_of (dropped (key_at t.row) toggle_code)) → x ≡ replied at s a t (read_part plain eight (view t) u)
-    next-dropped h p = over-replied at s a t _ refl p ∙ ap (replied at s a t) (part-drops eight t u reads h)
+    pub next-dropped : {k : Key} → beq t.toggle u ≡ false → k ≡ key_at t.row → x ≡ put_down at s a zero_record (answer_of (dropped k toggle_code)) → x ≡ next at s a u (record_at s at)
+    next-dropped h key p =
+        over-replied at s a t _ (ap (λ (k : Key). answer_of (dropped k toggle_code)) key) p ∙ ap (replied at s a t) (part-drops eight t u reads h) ∙ ap (next at s a u) held
 
-  pub next_none : {e : List ℕ} → (is_reading t.direction && counts t) ≡ false → e ≡ answer_of no_transfer → x ≡ put_down at s a zero_record e → x ≡ replied at s a t (read_part plain eight (view t) u)
-  next_none h q p = over-replied at s a t no_transfer q p ∙ ap (replied at s a t) (sym (no_reading t bag552 eight u h))
+  pub next_none : {e : List ℕ} → (is_reading t.direction && counts t) ≡ false → e ≡ answer_of no_transfer → x ≡ put_down at s a zero_record e → x ≡ next at s a u (record_at s at)
+  next_none h q p = over-replied at s a t no_transfer q p ∙ ap (replied at s a t) (sym (no_reading t bag552 eight u h)) ∙ ap (next at s a u) held
 
 -- ---- openings
 
@@ -122,22 +124,25 @@ abbrev pub opening : Form → List ℕ → List ℕ → Key → Reply plain
 opening F v s k = read_opening plain F k (read_whole (store_of v [] s) k.index k.sub)
 
 -- it goes through the gate of its key
-module _ (F : Form) (v s : List ℕ) (k : Key) {g : Gate} (way : way_of g ≡ read_gate (find_row k.index k.sub)) where
-  pub way_row : (row shape : ℕ) → g ≡ Open row shape → row_of k ≡ row
-  way_row row shape o = found_number k row (gate-opened WO write_only k.index k.sub row (find_row k.index k.sub) refl (leads WO write_only k way row shape o)).found
+module _ (F : Form) (v s : List ℕ) (k : Key) where
+  module _ (row : ℕ) (way : way_of (Ok row) ≡ read_gate (find_row k.index k.sub)) where
+    pub way_row : row_of k ≡ row
+    way_row = found_number k row (gate-opened WO write_only k.index k.sub row (find_row k.index k.sub) refl (leads WO write_only k row way)).found
 
-  pub way_opens : (row shape : ℕ) → g ≡ Open row shape → read_opening plain F k (value (value_of (at_row row) v)) ≡ opening F v s k
-  unfolding read_through
-  way_opens row shape o = sym (rw (read_by_gate k.index k.sub (store_of v [] s), leads WO write_only k way row shape o))
+    pub way_opens : read_opening plain F k (value (value_of (at_row row) v)) ≡ opening F v s k
+    unfolding read_through
+    way_opens = sym (rw (read_by_gate k.index k.sub (store_of v [] s), leads WO write_only k row way))
 
-  pub way_stops : (c : ℕ) → g ≡ Shut c → over plain (refused k c) ≡ opening F v s k
+  pub way_stops : (abort : AbortCode) → way_of (Err abort) ≡ read_gate (find_row k.index k.sub) → over plain (refused k (code_of abort)) ≡ opening F v s k
   unfolding read_opening read_through
-  way_stops c o = sym (rw (read_by_gate k.index k.sub (store_of v [] s), stops WO write_only k way c o))
+  way_stops abort way = sym (rw (read_by_gate k.index k.sub (store_of v [] s), stops WO write_only k abort way))
 
-module _ (at : ℕ) (v s a : List ℕ) (k : Key) {g : Gate} (way : way_of g ≡ read_gate (find_row k.index k.sub)) {x : Laid} where
-  pub read_led : (row shape : ℕ) → g ≡ Open row shape → x ≡ replied at s a (zero_record_at row) (read_opening plain eight k (value (value_of (at_row row) v)))
+module _ (at : ℕ) (v s a : List ℕ) (k : Key) {x : Laid} where
+  pub read_led : (row : ℕ) → way_of (Ok row) ≡ read_gate (find_row k.index k.sub) → x ≡ replied at s a (zero_record_at row) (read_opening plain eight k (value (value_of (at_row row) v)))
       → x ≡ replied at s a (zero_record_at (row_of k)) (opening eight v s k)
-  read_led row shape o p = rw (way_row eight v s k way row shape o) (p ∙ ap (replied at s a (zero_record_at row)) (way_opens eight v s k way row shape o))
+  read_led row way p = rw (way_row eight v s k row way) (p ∙ ap (replied at s a (zero_record_at row)) (way_opens eight v s k row way))
 
-  pub read_stopped : (c : ℕ) → g ≡ Shut c → x ≡ put_down at s a zero_record (answer_of (refused k c)) → x ≡ replied at s a (zero_record_at (row_of k)) (opening eight v s k)
-  read_stopped c o p = over-replied at s a (zero_record_at (row_of k)) (refused k c) refl p ∙ ap (replied at s a (zero_record_at (row_of k))) (way_stops eight v s k way c o)
+  pub read_stopped : (abort : AbortCode) → way_of (Err abort) ≡ read_gate (find_row k.index k.sub) → x ≡ put_down at s a zero_record (answer_of (refused k (code_of abort)))
+      → x ≡ replied at s a (zero_record_at (row_of k)) (opening eight v s k)
+  read_stopped abort way p =
+      over-replied at s a (zero_record_at (row_of k)) (refused k (code_of abort)) refl p ∙ ap (replied at s a (zero_record_at (row_of k))) (way_stops eight v s k abort way)

@@ -2,6 +2,7 @@
 use mathlib.Core.Path.{◌≡◌, ap, ap₂, ◌∙◌}
 use mathlib.Core.List.{List}
 use Prim.Native.Nat.{ℕ}
+use lib.ListN.{length}
 use Rattle.order.specs.Talk.{Request, Answer, Pending}
 use Rattle.order.specs.Serve.{Reply, over, onwards, keeping, serve}
 use Rattle.order.specs.Keep.{speak}
@@ -9,13 +10,13 @@ use Rattle.sdo.specs.declared.Key.{Key}
 use Rattle.sdo.specs.Eight.{ask_of, answer_of, eight}
 use Rattle.transfer.specs.declared.Transfer.{Transfer}
 use Rattle.transfer.specs.Records.{zero_record, view, base, lay}
-use Rattle.state.specs.State.{record_at, settled}
+use Rattle.state.specs.State.{state_size, record_at, settled}
 use Rattle.line.specs.Gauge.{plain, store_of}
 use Rattle.line.specs.Serving.{Laid, laid, put_down, replied, replied_as, told, told_by, spoken_over, message_told, Room, Ready}
 
 -- the line's part of what a function is lent
-pub room_of : {at : ℕ} {v b s a : List ℕ} → Ready at v b s a → Room at s a
-room_of r = record { inside = rw r.state_long r.place; long_enough = r.room }
+pub room_of : {at : ℕ} {s a : List ℕ} → length s ≡ state_size → Ready at a → Room at s a
+room_of n r = record { inside = rw n r.place; long_enough = r.room }
 
 -- ---- replies
 

@@ -4,6 +4,7 @@ use mathlib.Core.Bool.{Bool, true, false, cond, not, beq, ◌&&◌, false≢true
 use mathlib.Core.List.{List, ◌++◌}
 use Prim.Native.Nat.{ℕ, ◌+◌, ◌≤◌, ◌<◌}
 use native.Mathlib.Omega.{arith}
+use Rattle.std.specs.Prelude.{Result, Ok, Err}
 use lib.Dec.{leb, ltb}
 use lib.ListN.{length, take, length-take}
 use borrow.Author.Tests.{ltb-true, ltb-false, lt-ltb, le-ltb, lt-leb, le-leb, eq-eqb, ne_eqb}
@@ -20,9 +21,10 @@ use Rattle.table.proofs.Lengths.{largest_is}
 use Rattle.table.proofs.Table.{row_rule, row-found}
 use Rattle.gate.specs.Gates.{Way, to_row, gate, write_gate}
 use Rattle.gauge.specs.Memory.{Memory, Store, memory_of}
-use Rattle.gauge.specs.Endings.{Left, left, left_by}
+use Rattle.gauge.specs.Endings.{Ending, told_ending, Left, left, left_by}
 use Rattle.gauge.specs.Whole.{commit_row, with_trips}
-use Rattle.gauge.specs.declared.commit.Ending.{Ending}
+use Rattle.gauge.specs.declared.commit.Accepted.{Accepted}
+use Rattle.gauge.specs.declared.commit.Accepted.TheVariants.{Plainly, Restarting}
 use Rattle.gauge.proofs.ByGate.{commit_through, commit_by_gate}
 use Rattle.sdo.specs.declared.Key.{Key}
 use Rattle.sdo.specs.Eight.{answer_of}
@@ -30,7 +32,7 @@ use Rattle.transfer.specs.declared.Direction.{Direction}
 use Rattle.transfer.specs.declared.Direction.TheVariants.{Neither, Reads, Writes}
 use Rattle.transfer.specs.declared.Transfer.{Transfer}
 use Rattle.transfer.specs.Records.{zero_record, zero_record_at, key_at, allows, counts, view, lay}
-use Rattle.transfer.specs.Turns.{is_writing, filled, opened_record, grown}
+use Rattle.transfer.specs.Turns.{goes, is_writing, filled, opened_record, grown}
 use Rattle.transfer.proofs.RecordLaws.{view-writing, no_writing, held_fits, sent-length, lay-writing, lay_begun}
 use Rattle.state.specs.State.{record_at, record_bytes, fresh_state, settled}
 use Rattle.line.specs.Gauge.{bag552, plain, store_of}
@@ -39,21 +41,15 @@ use Rattle.line.proofs.Told.{over-replied, onwards-replied, laid-told, over-told
 
 -- ---- a length judged
 
-pub below_misfits : (low high n : ℕ) → n < low → false ≡ by_length low high n (λ c. false) true
+pub between_fits : (low high n : ℕ) → (leb low n && leb n high) ≡ by_length low high n (λ c. false) true
 unfolding by_length
-below_misfits low high n h = rw (lt-ltb n low h) (go (ltb high n))
+between_fits low high n = go (ltb n low) (ltb high n) (ltb-true n low) (ltb-false n low) (ltb-true high n) (ltb-false high n)
   where
-    go : (x : Bool) → false ≡ cond x false false
-    go true = refl
-    go false = refl
-
-pub above_asked : (low high n : ℕ) → low ≤ n → leb n high ≡ by_length low high n (λ c. false) true
-unfolding by_length
-above_asked low high n h = rw (le-ltb n low h) (go (ltb high n) (ltb-true high n) (ltb-false high n))
-  where
-    go : (x : Bool) → (x ≡ true → high < n) → (x ≡ false → n ≤ high) → leb n high ≡ cond x false true
-    go true p q = lt-leb n high (p refl)
-    go false p q = le-leb n high (q refl)
+    go : (x y : Bool) → (x ≡ true → n < low) → (x ≡ false → low ≤ n) → (y ≡ true → high < n) → (y ≡ false → n ≤ high) → (leb low n && leb n high) ≡ cond y false (cond x false true)
+    go true true p q r s = rw (lt-leb low n (p refl))
+    go true false p q r s = rw (lt-leb low n (p refl))
+    go false true p q r s = rw (le-leb low n (q refl), lt-leb n high (r refl))
+    go false false p q r s = rw (le-leb low n (q refl), le-leb n high (s refl))
 
 module _ (low high n : ℕ) {fits : Bool} (e : fits ≡ by_length low high n (λ c. false) true) where
   by_misfit : {A : Type 0} (refuse : ℕ → A) (pass : A) → fits ≡ false → by_length low high n refuse pass ≡ refuse (misfit_code high n)
@@ -85,7 +81,7 @@ row-most {row} w e = let most = (row_rule row w.there).most in omega (arith, e.n
 
 -- the row of a write that a record holds
 pub writing-row : (t : Transfer) → (is_writing t.direction && counts t) ≡ true → Writable t.row
-unfolding is_writing allows
+unfolding goes allows
 writing-row t e = let f = held_fits t (is_writing t.direction) e in record { there = f.there; open_to_writes = go t.direction e f.allowed }
   where
     go : (d : Direction) → (is_writing d && counts t) ≡ true → allows d (at_row t.row).access ≡ true → (at_row t.row).access ≡ RO → ⊥
@@ -107,8 +103,17 @@ commit_open row w g bytes = commit_by_gate (at_row row).index (at_row row).sub g
 
 -- what it leaves, by how it ends: the answer that agrees stands in the room already
 module _ (at : ℕ) (s a : List ℕ) (row : ℕ) where
-  pub ended_so : {e e' : Ending} {x : Laid} → e ≡ e' → x ≡ ended_by at row s a e' → x ≡ ended_by at row s a e
-  ended_so i z = z ∙ ap (ended_by at row s a) (sym i)
+  -- by the ending with its code
+  ended_told : Result Accepted ℕ → Laid
+  ended_told (Ok Plainly) = laid (splice s at (record_bytes zero_record)) a
+  ended_told (Ok Restarting) = laid (fresh_state s) a
+  ended_told (Err code) = put_down at s a zero_record (answer_of (refused (key_at row) code))
+
+  ended_so : (e : Ending) → ended_by at row s a e ≡ ended_told (told_ending e)
+  unfolding ended_by ended_told told_ending
+  ended_so (Ok Plainly) = refl
+  ended_so (Ok Restarting) = refl
+  ended_so (Err abort) = refl
 
   module _ (v b : List ℕ) where
     abbrev concluded : Outcome Store → Told
@@ -117,16 +122,16 @@ module _ (at : ℕ) (s a : List ℕ) (row : ℕ) where
     abbrev told-ended : Left → Laid → Told
     told-ended l k = told l.values l.block k.state k.answer
 
-    by_outcome : (o : Outcome Memory) → told-ended (left_by (memory_of v b) o) (ended_by at row s a (left_by (memory_of v b) o).ending) ≡ concluded (with_trips (store_of v b s) o)
-    unfolding told_by settled conclude with_trips left_by lay answer_of ended_by put_down
+    by_outcome : (o : Outcome Memory) → told-ended (left_by (memory_of v b) o) (ended_told (left_by (memory_of v b) o).ending) ≡ concluded (with_trips (store_of v b s) o)
+    unfolding told_by settled conclude with_trips left_by lay answer_of ended_told put_down
     by_outcome (stored n) = ap (told n.values n.block (splice s at (record_bytes zero_record))) (sym (splice_none a 0))
     by_outcome (restarted n) = ap (told n.values n.block (fresh_state s)) (sym (splice_none a 0))
     by_outcome (declined c) = refl
 
-    pub concluded_told : {v' b' s' a' : List ℕ} {e : Ending} → Writable row → (bytes : List ℕ) → left e v' b' ≡ left_by (memory_of v b) (commit_row row bytes (memory_of v b)) → laid s' a' ≡ ended_by at row s a e
+    pub concluded_told : {v' b' s' a' : List ℕ} (e : Ending) → Writable row → (bytes : List ℕ) → left e v' b' ≡ left_by (memory_of v b) (commit_row row bytes (memory_of v b)) → laid s' a' ≡ ended_by at row s a e
         → told v' b' s' a' ≡ concluded (plain.commit (store_of v b s) (key_at row) bytes)
-    concluded_told w bytes q z =
-        ap₂ told-ended q (z ∙ ap (λ (l : Left). ended_by at row s a l.ending) q)
+    concluded_told e w bytes q z =
+        ap₂ told-ended q (z ∙ ended_so e ∙ ap (λ (l : Left). ended_told l.ending) q)
         ∙ by_outcome (commit_row row bytes (memory_of v b))
         ∙ ap concluded (sym (commit_open row w (store_of v b s) bytes))
 

@@ -1,5 +1,5 @@
 -- SHAPE: what the functions of a line are held to: replies and requests served, as crate order has them, in the lent bytes. Assumes nothing.
-use Rattle.std.specs.Prelude.{ℕ, ◌+◌, ◌≤◌, ◌<◌, cond, List, ltb, ◌≡◌, length}
+use Rattle.std.specs.Prelude.{ℕ, ◌+◌, ◌≤◌, ◌<◌, cond, List, ltb, ◌≡◌, length, Ok, Err}
 use Rattle.wire.specs.Splice.{splice}
 use Rattle.order.specs.Talk.{Answer, refused}
 use Rattle.order.specs.Gauge.{too_long, too_short}
@@ -7,8 +7,9 @@ use Rattle.order.specs.Serve.{Reply, Served, remains}
 use Rattle.order.specs.Keep.{Spoken, is_wiped, speak}
 use Rattle.table.specs.Row.{RO}
 use Rattle.table.specs.Rows.{row_count, at_row}
-use Rattle.gauge.specs.declared.commit.Ending.{Ending}
-use Rattle.gauge.specs.declared.commit.Ending.TheVariants.{Accepted, Restarted, Refused}
+use Rattle.table.specs.Codes.{code_of}
+use Rattle.gauge.specs.declared.commit.Accepted.TheVariants.{Plainly, Restarting}
+use Rattle.gauge.specs.Endings.{Ending}
 use Rattle.transfer.specs.declared.Transfer.{Transfer}
 use Rattle.sdo.specs.declared.Key.{Key}
 use Rattle.sdo.specs.Eight.{answer_of, eight_bytes}
@@ -40,9 +41,9 @@ replied at state room b r = replied_as answer_of at state room b r
 
 -- a whole write of a row that ended so: the answer that says yes stands in the room already, an abort takes its place
 unfoldable pub ended_by : ℕ → ℕ → List ℕ → List ℕ → Ending → Laid
-ended_by at row state room Accepted = laid (splice state at (record_bytes zero_record)) room
-ended_by at row state room Restarted = laid (fresh_state state) room
-ended_by at row state room (Refused code) = put_down at state room zero_record (answer_of (refused (key_at row) code))
+ended_by at row state room (Ok Plainly) = laid (splice state at (record_bytes zero_record)) room
+ended_by at row state room (Ok Restarting) = laid (fresh_state state) room
+ended_by at row state room (Err abort) = put_down at state room zero_record (answer_of (refused (key_at row) (code_of abort)))
 
 -- the code for a length that does not fit, by the largest
 abbrev pub misfit_code : ℕ → ℕ → ℕ
@@ -79,10 +80,7 @@ pub record Room (at : ℕ) (state answer : List ℕ) : Type 0 where
   pub inside : at + record_size ≤ length state
   pub long_enough : 8 ≤ length answer
 
-pub record Ready (at : ℕ) (values block state answer : List ℕ) : Type 0 where
-  pub values_long : length values ≡ 1024
-  pub block_long : length block ≡ 512
-  pub state_long : length state ≡ state_size
+pub record Ready (at : ℕ) (answer : List ℕ) : Type 0 where
   pub place : at + record_size ≤ state_size
   pub room : 8 ≤ length answer
 

@@ -8,7 +8,7 @@ ghost use Rattle.transfer.specs.Records.{zero_record};
 ghost use Rattle.line.specs.Serving.{Room, laid, put_down, misfit_code};
 
 use sdo::{Key, answer};
-use table::code;
+use table::code::AbortCode;
 use transfer::Transfer;
 
 // The answer at the head of the room.
@@ -16,7 +16,7 @@ pub fn tell(room: &mut [u8], eight: [u8; 8])
     requires { 8 ≤ length room.old }
     ensures { room.new ≡ splice room.old 0 eight }
 {
-    wire::copy_at(room, 0, &eight, 0, 8);
+    wire::copy_at(room, 0, &eight);
 }
 
 // The answer ends the transfer.
@@ -59,8 +59,8 @@ pub fn misfit(state: &mut [u8], at: usize, room: &mut [u8], k: Key, high: usize,
     ensures { laid state.new room.new ≡ put_down at state.old room.old zero_record (answer_of (refused k (misfit_code high n))) }
 {
     if high < n {
-        refused(state, at, room, k, code::TOO_LONG);
+        refused(state, at, room, k, AbortCode::TooLong.into());
         return;
     }
-    refused(state, at, room, k, code::TOO_SHORT);
+    refused(state, at, room, k, AbortCode::TooShort.into());
 }

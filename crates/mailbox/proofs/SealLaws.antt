@@ -5,11 +5,12 @@ use mathlib.Core.Path.{◌≡◌, refl, sym, ap, ap₂, ◌∙◌}
 use mathlib.Core.Logic.{inl}
 use mathlib.Core.List.{List, [], ◌∷◌, ◌++◌, append_assoc}
 use lib.ListN.{length, take, drop, get_or, replicate, length-append, length-replicate}
-use lib.Seq.{get_or-take, get_or-drop, drop-drop}
+use lib.Seq.{get_or-take, get_or-drop}
 use borrow.Author.Tests.{le-leb}
+use borrow.Rule.Slice.PartMut.{put_mid}
 use Rattle.wire.specs.Splice.{splice}
 use Rattle.wire.specs.Little.{little}
-use Rattle.wire.proofs.SpliceLaws.{length-splice, part_length, splice-own, splice_behind, part_apart, is_apart}
+use Rattle.wire.proofs.SpliceLaws.{length-splice, part_length, splice-own, splice_behind, part_apart, is_apart, zeros-lent}
 use Rattle.wire.proofs.LittleLaws.{length-little, little-append}
 use Rattle.mailbox.specs.declared.Head.{Head}
 use Rattle.mailbox.specs.Mail.{counter_in, mailed}
@@ -62,21 +63,13 @@ framed l H len zs e h =
     ∙ splice_behind l 0 (H ++ sdo) zs (8 + len) (omega (arith, length-append H sdo)) h
     ∙ ap (splice l 0) (append_assoc H sdo zs)
 
--- a part of the list is cleared
-cleared : (l : List ℕ) (at end : ℕ) → at ≤ end → end ≤ length l
-    → take at l ++ (replicate (length (take (end - at) (drop at l))) 0 ++ drop (end - at) (drop at l)) ≡ splice l at (replicate (end - at) 0)
-unfolding splice
-cleared l at end h k =
-    let n : length (take (end - at) (drop at l)) ≡ end - at = part_length l at (end - at) (omega arith) in
-    rw (n, length-replicate, drop-drop)
-
 pub sealed_is : (l : List ℕ) (h : Head) (len : ℕ) → 128 ≤ length l → (1 ≤ len) × (len ≤ 120) → {w v : ℕ} {l₁ l₂ zs : List ℕ}
     → w ≡ 2 + len + 65536 * h.address
     → v ≡ 256 * (3 + 16 * counter_in h) + 65536 * (4096 * service_by (get_or l 8 0))
     → l₁ ≡ splice l 0 (little 4 w)
     → l₂ ≡ splice l₁ 4 (little 4 v)
     → zs ≡ replicate (length (take (128 - (8 + len)) (drop (8 + len) l₂))) 0
-    → take (8 + len) l₂ ++ (zs ++ drop (128 - (8 + len)) (drop (8 + len) l₂)) ≡ splice l 0 (sealed h (take len (drop 8 l)))
+    → put_mid (8 + len) (128 - (8 + len)) l₂ zs ≡ splice l 0 (sealed h (take len (drop 8 l)))
 unfolding sealed
 sealed_is l h len long b {w} {v} {l₁} {l₂} {zs} ew ev e₁ e₂ ez =
     let sdo : List ℕ = take len (drop 8 l) in
@@ -87,8 +80,7 @@ sealed_is l h len long b {w} {v} {l₁} {l₂} {zs} ew ev e₁ e₂ ez =
     let headed : l₂ ≡ splice l 0 H = e₂ ∙ ap (λ (x : List ℕ). splice x 4 (little 4 v)) e₁ ∙ splice_behind l 0 (little 4 w) (little 4 v) 4 (length-little 4 w) (omega (arith, length-little 4 v)) in
     let n₂ : length l₂ ≡ length l = ap (λ (x : List ℕ). length x) headed ∙ length-splice l 0 H (omega arith) in
     let zeros : 128 - (8 + len) ≡ 120 - len = omega arith in
-    ap (λ (x : List ℕ). take (8 + len) l₂ ++ (x ++ drop (128 - (8 + len)) (drop (8 + len) l₂))) ez
-    ∙ cleared l₂ (8 + len) 128 (omega (arith, b.1)) (omega arith)
+    zeros-lent l₂ (8 + len) 128 (omega (arith, b.1)) (omega arith) ez
     ∙ ap (λ (x : List ℕ). splice x (8 + len) (replicate (128 - (8 + len)) 0)) headed
     ∙ framed l H len (replicate (128 - (8 + len)) 0) nH (omega (arith, b.1, length-replicate {A = ℕ} (128 - (8 + len)) 0))
     ∙ ap (splice l 0) (rw (zeros, ew, ev, first) (mailed_is len h.address (counter_in h) (service_by (get_or l 8 0)) sdo n b.0 b.1 (omega arith)))

@@ -1,5 +1,5 @@
 -- RULE: THE MAILBOX (R18): six bytes of mailbox header, two of CoE header, then the SDO, in 128 bytes. The structs are the code's own. Assumes nothing.
-use Rattle.std.specs.Prelude.{ℕ, ◌+◌, ◌-◌, ◌*◌, ◌/◌, ◌%◌, Bool, cond, ◌&&◌, List, [], ◌∷◌, ◌++◌, eqb, leb, length, take, drop, replicate}
+use Rattle.std.specs.Prelude.{ℕ, ◌+◌, ◌-◌, ◌*◌, ◌/◌, ◌%◌, Bool, cond, ◌&&◌, List, [], ◌∷◌, ◌++◌, eqb, leb, length, take, drop, replicate, Result, Ok, Err}
 use Rattle.wire.specs.Little.{little, number}
 use Rattle.order.specs.Talk.{Answer}
 use Rattle.order.specs.Serve.{Speech}
@@ -7,8 +7,8 @@ use Rattle.order.specs.Promise.{is_abort}
 use Rattle.sdo.specs.declared.Key.{Key}
 use Rattle.sdo.specs.Long.{long_form, ask_long, long_answer, tell_long}
 use Rattle.mailbox.specs.declared.Head.{Head}
-use Rattle.mailbox.specs.declared.Mail.{Mail}
-use Rattle.mailbox.specs.declared.Mail.TheVariants.{Misshapen, NotSdo, Sdo}
+use Rattle.mailbox.specs.declared.Unfit.{Unfit}
+use Rattle.mailbox.specs.declared.Unfit.TheVariants.{Misshapen, NotSdo}
 
 abbrev pub mailbox_size : ℕ
 mailbox_size = 128
@@ -29,9 +29,9 @@ unfoldable pub asks_sdo : Head → Bool
 asks_sdo h = eqb (h.kind % 16) 3 && eqb (h.service / 4096) 2
 
 -- what a mailbox is; the numbers that a call gives back for the first two are 6 and 7 (R13.9, R13.10)
-unfoldable pub mail_of : List ℕ → Mail
+unfoldable pub mail_of : List ℕ → Result Head Unfit
 unfolding well_shaped asks_sdo
-mail_of m = cond (well_shaped m) (cond (asks_sdo (head_of m)) (Sdo (head_of m)) NotSdo) Misshapen
+mail_of m = cond (well_shaped m) (cond (asks_sdo (head_of m)) (Ok (head_of m)) (Err NotSdo)) (Err Misshapen)
 
 -- the SDO: as many bytes as the length field counts, less the CoE header. What stands behind is not looked at (R18.2)
 abbrev pub sdo_in : List ℕ → List ℕ

@@ -7,7 +7,7 @@ ghost use Rattle.wire.specs.Little.{number};
 ghost use Rattle.mailbox.specs.Mail.{mailbox_size, head_of, mail_of, sdo_in};
 ghost use Rattle.mailbox.specs.Sealing.{service_by, sealed};
 
-use wire::wide;
+use wire::Number;
 
 pub const SIZE: usize = 128;
 
@@ -34,12 +34,11 @@ pub struct Head {
     pub service: u16,
 }
 
-// Not 128 bytes or a length field not 10 to 122; no SDO request; or one, with its head.
-#[derive(Clone, Copy)]
-pub enum Mail {
+// What is no SDO request in a mailbox: not 128 bytes or a length field not 10 to 122; or something else than an SDO.
+#[derive(Clone, Copy, PartialEq, Eq)]
+pub enum Unfit {
     Misshapen,
     NotSdo,
-    Sdo(Head),
 }
 
 // The fields, one after another; channel and priority are passed over.
@@ -48,13 +47,13 @@ fn head_of(datagram: &[u8]) -> Head
     ensures { result ≡ head_of datagram.now }
 {
     let at0 = reader::new(datagram);
-    let len = reader::field(at0, 2);
+    let len = reader::field(at0);
     let at2 = reader::past(at0, 2);
-    let address = reader::field(at2, 2);
+    let address = reader::field(at2);
     let at5 = reader::past(at2, 3);
-    let kind = reader::field(at5, 1);
+    let kind = u16::from(reader::field::<u8>(at5));
     let at6 = reader::past(at5, 1);
-    let service = reader::field(at6, 2);
+    let service = reader::field(at6);
     Head {
         len,
         address,
@@ -63,26 +62,27 @@ fn head_of(datagram: &[u8]) -> Head
     }
 }
 
-pub fn mail_of(datagram: &[u8]) -> Mail
+// The head of an SDO request.
+pub fn mail_of(datagram: &[u8]) -> Result<Head, Unfit>
     ensures { result ≡ mail_of datagram.now }
 {
     if datagram.len() != SIZE {
-        return Mail::Misshapen;
+        return Err(Unfit::Misshapen);
     }
     let head = head_of(datagram);
     if head.len < LEAST_LENGTH {
-        return Mail::Misshapen;
+        return Err(Unfit::Misshapen);
     }
     if MOST_LENGTH < head.len {
-        return Mail::Misshapen;
+        return Err(Unfit::Misshapen);
     }
     if head.kind % 16 != TYPE_COE {
-        return Mail::NotSdo;
+        return Err(Unfit::NotSdo);
     }
     if head.service / 4096 != SDO_REQUEST {
-        return Mail::NotSdo;
+        return Err(Unfit::NotSdo);
     }
-    Mail::Sdo(head)
+    Ok(head)
 }
 
 // The SDO of a mailbox with this length field.
@@ -90,7 +90,7 @@ pub fn sdo_of(mailbox: &[u8], len: u16) -> &[u8]
     requires { (length mailbox.now ≡ mailbox_size) × (len ≡ number mailbox.now 0 2) × ((10 ≤ len) × (len ≤ 122)) }
     ensures { (result.now ≡ sdo_in mailbox.now) × (8 ≤ length result.now) }
 {
-    let end = HEADER + wide::pair_to_usize(len);
+    let end = HEADER + usize::from(len);
     &mailbox[SDO_AT..end]
 }
 
@@ -99,14 +99,14 @@ fn length_word(len: usize, address: u16) -> u32
     requires { len ≤ 120 }
     ensures { result ≡ 2 + len + 65536 * address }
 {
-    2 + len as u32 + 65536 * (address as u32)
+    2 + len as u32 + 65536 * u32::from(address)
 }
 
 // The word of type with counter and of service: an abort goes out as a request.
 fn service_word(kind: u16, first: u8) -> u32
     ensures { result ≡ 256 * (3 + 16 * (kind / 16 % 8)) + 65536 * (4096 * service_by first) }
 {
-    let counter = (kind / 16 % 8) as u32;
+    let counter = u32::from(kind / 16 % 8);
     let coe = 256 * (3 + 16 * counter);
     if first == 0x80 {
         return coe + 65536 * 8192;
@@ -120,8 +120,8 @@ pub fn seal(answer: &mut [u8], head: Head, len: usize)
     ensures { answer.new ≡ splice answer.old 0 (sealed head (take len (drop 8 answer.old))) }
 {
     let first = answer[SDO_AT];
-    wire::put_word(answer, 0, length_word(len, head.address));
-    wire::put_word(answer, 4, service_word(head.kind, first));
+    length_word(len, head.address).put(answer, 0);
+    service_word(head.kind, first).put(answer, 4);
     let end = SDO_AT + len;
-    wire::clear(&mut answer[end..SIZE]);
+    answer[end..SIZE].fill(0);
 }

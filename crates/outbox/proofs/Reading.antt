@@ -17,8 +17,9 @@ use Rattle.table.specs.Row.{CARD}
 use Rattle.table.specs.Rows.{at_row, row_count}
 use Rattle.table.specs.Find.{find_row}
 use Rattle.gate.specs.Gates.{read_gate, way_of}
-use Rattle.find.specs.declared.Gate.{Gate}
-use Rattle.find.specs.declared.Gate.TheVariants.{Open, Shut}
+use Rattle.std.specs.Prelude.{Ok, Err}
+use Rattle.table.specs.Codes.{code_of}
+use Rattle.table.specs.declared.code.AbortCode.{AbortCode}
 use Rattle.gauge.specs.Whole.{value_of}
 use Rattle.gauge.proofs.ValueLaws.{value-length, stored-value}
 use Rattle.sdo.specs.declared.Key.{Key}
@@ -29,7 +30,7 @@ use Rattle.transfer.specs.declared.Transfer.{Transfer}
 use Rattle.transfer.specs.Records.{zero_record, zero_record_at, key_at, row_of, view, lay, counts}
 use Rattle.transfer.specs.Turns.{is_reading, filled}
 use Rattle.transfer.proofs.RecordLaws.{no_reading, filled-value, part-within}
-use Rattle.state.specs.State.{record_bytes}
+use Rattle.state.specs.State.{record_at, record_bytes}
 use Rattle.line.specs.Gauge.{bag552, plain}
 use Rattle.line.specs.Serving.{Laid, replied_as, laid, put_down}
 use Rattle.line.proofs.Reading.{part_goes, part-drops, opening, way_row, way_opens, way_stops}
@@ -101,23 +102,24 @@ module _ (values : List ℕ) (row : ℕ) (there : row < row_count) (long : lengt
         (j ∙ sym (length-append e shown ∙ omega (arith, l, shown-length))) (record { least = omega (arith, j); most = omega (arith, j) }))
 
 -- the value behind its opening
-module _ (values : List ℕ) (row : ℕ) (there : row < row_count) (long : length values ≡ 1024) (a : List ℕ) {kind : ℕ} (ek : kind ≡ (at_row row).kind) where
-  pub shown-stored : {len place : ℕ} {a' : List ℕ} → len ≡ (at_row row).len → kind < CARD → place ≡ (at_row row).place → a' ≡ splice a 8 (take len (drop place values)) → a' ≡ splice a 8 (value_of (at_row row) values)
-  shown-stored l b p q = q ∙ ap (splice a 8) (sym (stored-value row there values (omega (arith, ek, b)) ∙ rw (l, p)))
+module _ (values : List ℕ) (row : ℕ) (there : row < row_count) (long : length values ≡ 1024) (a : List ℕ) where
+  pub shown-stored : {len place : ℕ} {a' : List ℕ} → len ≡ (at_row row).len → (at_row row).kind < CARD → place ≡ (at_row row).place → a' ≡ splice a 8 (take len (drop place values)) → a' ≡ splice a 8 (value_of (at_row row) values)
+  shown-stored l b p q = q ∙ ap (splice a 8) (sym (stored-value row there values b ∙ rw (l, p)))
 
-  pub shown-held : {len : ℕ} {held a' : List ℕ} → len ≡ (at_row row).len → held ≡ filled (value_of (at_row row) values) → a' ≡ splice a 8 (take len (drop 0 held)) → a' ≡ splice a 8 (value_of (at_row row) values)
+  pub shown-held : {len : ℕ} {held a' : List ℕ} → len ≡ (at_row row).len → held ≡ filled (value_of (at_row row) values) → a' ≡ splice a 8 (take len held) → a' ≡ splice a 8 (value_of (at_row row) values)
   shown-held {len} l h q = q ∙ ap (splice a 8) (ap (take len) h ∙ filled-value (value_of (at_row row) values) len (value-length row there values long ∙ sym l))
 
 -- a read goes through the gate of its key
-module _ (at : ℕ) (v s a : List ℕ) (k : Key) {g : Gate} (way : way_of g ≡ read_gate (find_row k.index k.sub)) {x : Laid} {n : ℕ} where
-  pub box_led : (row shape : ℕ) → g ≡ Open row shape → Replies at s a (zero_record_at row) (read_opening plain long_form k (value (value_of (at_row row) v))) x n
+module _ (at : ℕ) (v s a : List ℕ) (k : Key) {x : Laid} {n : ℕ} where
+  pub box_led : (row : ℕ) → way_of (Ok row) ≡ read_gate (find_row k.index k.sub) → Replies at s a (zero_record_at row) (read_opening plain long_form k (value (value_of (at_row row) v))) x n
       → Replies at s a (zero_record_at (row_of k)) (opening long_form v s k) x n
-  box_led row shape o p = rw (way_row long_form v s k way row shape o) (instead at s a (zero_record_at row) (way_opens long_form v s k way row shape o) p)
+  box_led row way p = rw (way_row long_form v s k row way) (instead at s a (zero_record_at row) (way_opens long_form v s k row way) p)
 
-  pub box_stopped : (c : ℕ) → g ≡ Shut c → x ≡ put_down at s a zero_record (answer_of (refused k c)) → n ≡ 8 → Replies at s a (zero_record_at (row_of k)) (opening long_form v s k) x n
+  pub box_stopped : (abort : AbortCode) → way_of (Err abort) ≡ read_gate (find_row k.index k.sub) → x ≡ put_down at s a zero_record (answer_of (refused k (code_of abort))) → n ≡ 8
+      → Replies at s a (zero_record_at (row_of k)) (opening long_form v s k) x n
   unfolding long_answer answer_of little
-  box_stopped c o p l =
-      instead at s a (zero_record_at (row_of k)) (way_stops long_form v s k way c o) (over_long at s a (zero_record_at (row_of k)) (refused k c) refl p l (rw l eight_fits))
+  box_stopped abort way p l =
+      instead at s a (zero_record_at (row_of k)) (way_stops long_form v s k abort way) (over_long at s a (zero_record_at (row_of k)) (refused k (code_of abort)) refl p l (rw l eight_fits))
 
 -- ---- parts: all that is left goes with it
 
@@ -167,23 +169,25 @@ module _ (at : ℕ) (s a : List ℕ) (t : Transfer) (long : length t.held ≡ 64
       bounded false b e = omega (arith, e)
 
 -- the record says whether a read is under way, and then its toggle whether the part is given
-module _ (at : ℕ) (s a : List ℕ) (t : Transfer) (u : Bool) {x : Laid} {n : ℕ} where
-  module _ (reads : (is_reading t.direction && counts t) ≡ true) where
-    pub box_given : beq t.toggle u ≡ true → Replies at s a t (give_part plain long_form (key_at t.row) (take t.len t.held) t.place t.toggle) x n
-        → Replies at s a t (read_part plain long_form (view t) u) x n
-    box_given h p = instead at s a t (part_goes long_form t u reads h) p
+module _ (at : ℕ) (s a : List ℕ) (u : Bool) where
+  abbrev Next : Transfer → Laid → ℕ → Type 0
+  Next r x n = Replies at s a r (read_part plain long_form (view r) u) x n
 
-    pub box_dropped : beq t.toggle u ≡ false → x ≡ put_down at s a zero_record (answer_of (dropped (key_at t.row) toggle_code)) → n ≡ 8 → Replies at s a t (read_part plain long_form (view t) u) x n
+  module _ (t : Transfer) (held : t ≡ record_at s at) {x : Laid} {n : ℕ} where
+    -- the record that stands in the state
+    by_record : Next t x n → Next (record_at s at) x n
+    by_record p =
+        (p.0 ∙ ap (λ (y : Transfer). long_replied at s a y (read_part plain long_form (view y) u)) held, p.1 ∙ ap (λ (y : Transfer). reply_length (read_part plain long_form (view y) u)) held, p.2)
+
+    module _ (reads : (is_reading t.direction && counts t) ≡ true) where
+      pub box_given : beq t.toggle u ≡ true → Replies at s a t (give_part plain long_form (key_at t.row) (take t.len t.held) t.place t.toggle) x n → Next (record_at s at) x n
+      box_given h p = by_record (instead at s a t (part_goes long_form t u reads h) p)
+
+      pub box_dropped : {k : Key} → beq t.toggle u ≡ false → k ≡ key_at t.row → x ≡ put_down at s a zero_record (answer_of (dropped k toggle_code)) → n ≡ 8 → Next (record_at s at) x n
+      unfolding long_answer answer_of little
+      box_dropped h key p l =
+          by_record (instead at s a t (part-drops long_form t u reads h) (over_long at s a t (dropped (key_at t.row) toggle_code) (ap (λ (k : Key). answer_of (dropped k toggle_code)) key) p l (rw l eight_fits)))
+
+    pub box_none : {e : List ℕ} → (is_reading t.direction && counts t) ≡ false → e ≡ answer_of no_transfer → x ≡ put_down at s a zero_record e → n ≡ 8 → Next (record_at s at) x n
     unfolding long_answer answer_of little
-    box_dropped h p l = instead at s a t (part-drops long_form t u reads h) (over_long at s a t (dropped (key_at t.row) toggle_code) refl p l (rw l eight_fits))
-
-  pub box_none : {e : List ℕ} → (is_reading t.direction && counts t) ≡ false → e ≡ answer_of no_transfer → x ≡ put_down at s a zero_record e → n ≡ 8
-      → Replies at s a t (read_part plain long_form (view t) u) x n
-  unfolding long_answer answer_of little
-  box_none h q p l = instead at s a t (sym (no_reading t bag552 long_form u h)) (over_long at s a t no_transfer q p (l ∙ sym (ap length q)) (rw l eight_fits))
-
--- the record that stands in the state
-pub by_record : (at : ℕ) (s a : List ℕ) (u : Bool) {t r : Transfer} {x : Laid} {n : ℕ} → t ≡ r → Replies at s a t (read_part plain long_form (view t) u) x n
-    → Replies at s a r (read_part plain long_form (view r) u) x n
-by_record at s a u e p =
-    (p.0 ∙ ap (λ (y : Transfer). long_replied at s a y (read_part plain long_form (view y) u)) e, p.1 ∙ ap (λ (y : Transfer). reply_length (read_part plain long_form (view y) u)) e, p.2)
+    box_none h q p l = by_record (instead at s a t (sym (no_reading t bag552 long_form u h)) (over_long at s a t no_transfer q p (l ∙ sym (ap length q)) (rw l eight_fits)))

@@ -3,7 +3,7 @@ use mathlib.Core.Path.{◌≡◌, sym, ap, ◌∙◌}
 use mathlib.Core.List.{List, ◌++◌}
 use Prim.Native.Nat.{ℕ, ◌+◌, ◌≤◌}
 use native.Mathlib.Omega.{arith}
-use lib.ListN.{length, take, drop, length-append, length-take, length-drop}
+use lib.ListN.{length, take, drop}
 use lib.Seq.{drop_at, drop-drop, take-append-le, length-take-le}
 use borrow.Author.Tests.{le-leb}
 use Rattle.wire.specs.Splice.{splice}
@@ -37,9 +37,6 @@ module _ (a : List ℕ) (long : mailbox_size ≤ length a) where
   inner_long = part_length a 8 120 (omega arith)
 
   module _ (r : List ℕ) (kept : length r ≡ length (inner a)) where
-    pub outer_long : length (outer a r) ≡ length a
-    outer_long = simp (length-append, length-take, length-drop) (omega (arith, kept, inner_long))
-
     behind_head : drop 8 (outer a r) ≡ r ++ drop 120 (drop 8 a)
     behind_head = drop_at (take 8 a) (r ++ drop 120 (drop 8 a)) 8 (length-take-le 8 a (omega arith))
 

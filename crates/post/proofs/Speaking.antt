@@ -13,7 +13,7 @@ use Rattle.order.proofs.Answers.{NoRead}
 use Rattle.gauge.specs.Whole.{read_checked, read_whole}
 use Rattle.sdo.specs.declared.Key.{Key}
 use Rattle.sdo.specs.declared.Message.TheVariants.{SendPart, OpenRead, NextPart, Unknown}
-use Rattle.sdo.specs.declared.Heard.TheVariants.{Asks}
+use Rattle.std.specs.Prelude.{Some}
 use Rattle.sdo.specs.Eight.{heard_of, request_of, request_heard, answer_of}
 use Rattle.sdo.specs.Long.{part_bytes, asked_with, ask_long, long_form, long_answer}
 use Rattle.sdo.proofs.LongTrip.{long_request}
@@ -51,7 +51,7 @@ module _ (at : ℕ) (v b s a m : List ℕ) where
   abbrev Said : Told → ℕ → Type 0
   Said x n = (x ≡ long_told at m v b s a) × (n ≡ spoken_length at m v b s) × SdoLong n
 
-  pub said-part : (u : Bool) (used : ℕ) (last : Bool) {count : ℕ} {x : Told} → heard_of m ≡ Asks (SendPart u used last) → count ≡ count_by used (length m)
+  pub said-part : (u : Bool) (used : ℕ) (last : Bool) {count : ℕ} {x : Told} → heard_of m ≡ Some (SendPart u used last) → count ≡ count_by used (length m)
       → x ≡ told_by at s a (spoken_over (record_at s at) (write_part plain (store_of v b s) (view (record_at s at)) u (take count (drop 1 m)) last)) → Said x 8
   unfolding request_heard request_of asked_with NoRead base serve
   said-part u used last {count} h c q =
@@ -60,19 +60,19 @@ module _ (at : ℕ) (v b s a m : List ℕ) where
       (q ∙ ap (λ (y : List ℕ). asked_told at (send_part u y last) v b s a) bytes ∙ write-told at v b s a m r (long_request m _ h) tt, write-length at v b s a m r (long_request m _ h) tt, eight_fits)
 
   -- a read does not look at the block
-  pub said_read : (k : Key) {n : ℕ} {s' a' : List ℕ} → heard_of m ≡ Asks (OpenRead k)
+  pub said_read : (k : Key) {n : ℕ} {s' a' : List ℕ} → heard_of m ≡ Some (OpenRead k)
       → Replies at s a (zero_record_at (row_of k)) (read_opening plain long_form k (read_whole (store_of v [] s) k.index k.sub)) (laid s' a') n → Said (told v b s' a') n
   unfolding request_heard request_of asked_with NoRead base serve read_whole read_checked
   said_read k h p =
       (reply_told (open_read k) (long_request m _ h) (read_opening plain long_form k (read_whole (store_of v [] s) k.index k.sub)) refl p.0, p.1 ∙ length-asks at v b s a m (open_read k) (long_request m _ h), p.2)
 
-  pub said-next : (u : Bool) {n : ℕ} {s' a' : List ℕ} → heard_of m ≡ Asks (NextPart u) → Replies at s a (record_at s at) (read_part plain long_form (view (record_at s at)) u) (laid s' a') n
+  pub said-next : (u : Bool) {n : ℕ} {s' a' : List ℕ} → heard_of m ≡ Some (NextPart u) → Replies at s a (record_at s at) (read_part plain long_form (view (record_at s at)) u) (laid s' a') n
       → Said (told v b s' a') n
   unfolding request_heard request_of asked_with NoRead base serve
   said-next u h p =
       (reply_told (next_part u) (long_request m _ h) (read_part plain long_form (view (record_at s at)) u) refl p.0, p.1 ∙ length-asks at v b s a m (next_part u) (long_request m _ h), p.2)
 
-  pub said-unknown : {s' a' bytes : List ℕ} → heard_of m ≡ Asks Unknown → bytes ≡ answer_of no_transfer → laid s' a' ≡ put_down at s a zero_record bytes → Said (told v b s' a') 8
+  pub said-unknown : {s' a' bytes : List ℕ} → heard_of m ≡ Some Unknown → bytes ≡ answer_of no_transfer → laid s' a' ≡ put_down at s a zero_record bytes → Said (told v b s' a') 8
   unfolding request_heard request_of asked_with NoRead base serve
   said-unknown h e q =
       (over-told at s a v b zero_record no_transfer e q ∙ write-told at v b s a m unknown (long_request m _ h) tt, write-length at v b s a m unknown (long_request m _ h) tt, eight_fits)

@@ -1,11 +1,10 @@
-// A reader over a lent datagram: it keeps the datagram and its place in it, and hands out one field after another. Each function takes it apart
-// and calls one on the slice and the number.
+// A reader over a lent datagram: it keeps the datagram and its place in it, and hands out one field after another.
 #![tactic(auto)]
 
 ghost use Rattle.std.specs.Prelude.{◌≡◌, ◌+◌, ◌≤◌, ◌<◌, ◌^◌, length};
 ghost use Rattle.wire.specs.Little.{number};
 
-use wire::wide;
+use wire::Number;
 
 #[derive(Clone, Copy)]
 pub struct Reader<'a> {
@@ -19,23 +18,12 @@ pub fn new<'a>(datagram: &'a [u8]) -> Reader<'a>
     Reader { datagram, at: 0 }
 }
 
-// A field of one byte or two.
-fn field_at(s: &[u8], at: usize, width: usize) -> u16
-    requires { ((1 ≤ width) × (width ≤ 2)) × (at + width ≤ length s.now) }
-    ensures { result ≡ number s.now at width }
+// The field at the place, a number of any width.
+pub fn field<'a, N: Number>(r: Reader<'a>) -> N
+    requires { r.at + N.width ≤ length r.datagram.now }
+    ensures { N.value result ≡ number r.entry.datagram.now r.entry.at N.width }
 {
-    if width == 1 {
-        return wide::to_u16(wire::byte_at(s, at));
-    }
-    wire::pair_at(s, at)
-}
-
-// The field at the place.
-pub fn field<'a>(r: Reader<'a>, width: usize) -> u16
-    requires { ((1 ≤ width) × (width ≤ 2)) × (r.at + width ≤ length r.datagram.now) }
-    ensures { result ≡ number r.entry.datagram.now r.entry.at width }
-{
-    field_at(r.datagram, r.at, width)
+    N::at(r.datagram, r.at)
 }
 
 // The reader n bytes further on.

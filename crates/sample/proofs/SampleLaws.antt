@@ -4,6 +4,7 @@ use mathlib.Core.Path.{◌≡◌, refl, sym, ap, ap₂, ◌∙◌, subst}
 use mathlib.Core.List.{List, [], ◌∷◌}
 use Prim.Native.Nat.{ℕ, ◌+◌, ◌*◌, ◌/◌, ◌%◌, ◌^◌, ◌<◌}
 use native.Mathlib.Omega.{arith}
+use Rattle.std.specs.Prelude.{Some, None}
 use lib.Bits.{bit_and, bit_or, and_block, and_mask, or_lt}
 use lib.Dec.{T, eqb}
 use lib.ListN.{length}
@@ -34,7 +35,7 @@ kept_is f =
     ∙ omega arith
 
 -- eleven bits, so a UINT holds them
-kept_lt : (f : ℕ) → kept_faults f < 2 ^ 16
+pub kept_lt : (f : ℕ) → kept_faults f < 2 ^ 16
 kept_lt f = rw kept_is (omega arith)
 
 kept_word : (f : ℕ) → kept_faults f < 2 ^ 32
@@ -79,18 +80,32 @@ word_outputs t =
 
 -- ---- a sample by whether its pressure is usable
 
+-- a pressure that is given back is the sample's, and usable; none is given where it is not
+pub some_told : (b : Bool) (p q : Float) → Some q ≡ cond b (Some p) None → (b ≡ true) × (q ≡ p)
+some_told true p q e = (refl, cc)
+some_told false p q e = absurd cc
+
+none_told : (b : Bool) (p : Float) → None ≡ cond b (Some p) None → b ≡ false
+none_told true p e = absurd cc
+none_told false p e = refl
+
 module _ (l : List ℕ) (was : Trips) (p : Float) (valid : ℕ) where
   -- what is promised of trips and values
   abbrev Taken : Trips → List ℕ → Type 0
   Taken t x = (t ≡ trips_after l was p valid) × (x ≡ with_trip_entries (trips_after l was p valid) (with_reading p valid l))
 
-  pub taken_usable : {t : Trips} {x : List ℕ} → usable_pressure p valid ≡ true → (t ≡ trips_next l was p) × (x ≡ with_trip_entries (trips_next l was p) (with_pressure p l)) → Taken t x
+  pub taken_usable : {q : Float} {t : Trips} {x : List ℕ} → Some q ≡ cond (usable_pressure p valid) (Some p) None
+      → (t ≡ trips_next l was q) × (x ≡ with_trip_entries (trips_next l was q) (with_pressure q l)) → Taken t x
   unfolding trips_next trips_after point_after with_reading
-  taken_usable e q = (simp e q.0, simp e q.1)
+  taken_usable {q} e w =
+      let u = some_told (usable_pressure p valid) p q e in
+      (simp u.0 (rw u.1 at w.0), simp u.0 (rw u.1 at w.1))
 
-  pub taken_unusable : {t : Trips} {x : List ℕ} → usable_pressure p valid ≡ false → (t ≡ all_off) × (x ≡ with_trip_entries all_off (with_none l)) → Taken t x
+  pub taken_unusable : {t : Trips} {x : List ℕ} → None ≡ cond (usable_pressure p valid) (Some p) None → (t ≡ all_off) × (x ≡ with_trip_entries all_off (with_none l)) → Taken t x
   unfolding trips_after point_after off with_reading
-  taken_unusable e q = (simp e q.0, simp e q.1)
+  taken_unusable e w =
+      let u = none_told (usable_pressure p valid) p e in
+      (simp u w.0, simp u w.1)
 
 -- ---- a sample as a list of writes
 

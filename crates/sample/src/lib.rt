@@ -9,9 +9,9 @@ ghost use Rattle.trip.specs.Trip.{all_off};
 ghost use Rattle.sample.specs.Faults.{kept_faults, with_faults, summary_of, with_summary};
 ghost use Rattle.sample.specs.Sample.{settings, trips_next, trips_after, with_pressure, with_none, with_reading, trip_word, with_trip_entries, values_after};
 
-use table::place;
+use table::{Values, place};
 use trip::{Point, Side, Trips};
-use wire::{bit_of, is_set};
+use wire::{Number, is_set};
 
 fn settings_at(values: &[u8], at: usize) -> Point
     requires { at + 34 ≤ length values.now }
@@ -31,8 +31,7 @@ fn settings_at(values: &[u8], at: usize) -> Point
 }
 
 // Both points, one sample on, by the settings that stand in the values.
-fn next_trips(values: &[u8], was: Trips, p: f32) -> Trips
-    requires { length values.now ≡ 1024 }
+fn next_trips(values: &Values, was: Trips, p: f32) -> Trips
     ensures { result ≡ trips_next values.now was p }
 {
     let first = was.one;
@@ -42,15 +41,15 @@ fn next_trips(values: &[u8], was: Trips, p: f32) -> Trips
     Trips { one, two }
 }
 
-fn put_reading(values: &mut [u8], p: f32)
-    requires { (length values.old ≡ 1024) × (is_nan p ≡ false) }
+fn put_reading(values: &mut Values, p: f32)
+    requires { is_nan p ≡ false }
     ensures { values.new ≡ with_pressure p values.old }
 {
     let pattern = wire::bits_of(p);
-    wire::put_word(values, place::INPUT_VALUE, pattern);
-    wire::put_word(values, place::TRIP_INPUT_1, pattern);
-    wire::put_word(values, place::TRIP_INPUT_2, pattern);
-    wire::put_byte(values, place::READING_VALID, 1);
+    pattern.put(values, place::INPUT_VALUE);
+    pattern.put(values, place::TRIP_INPUT_1);
+    pattern.put(values, place::TRIP_INPUT_2);
+    1u8.put(values, place::READING_VALID);
 }
 
 fn word_of(t: Trips) -> u8
@@ -58,12 +57,11 @@ fn word_of(t: Trips) -> u8
 {
     let one = t.one;
     let two = t.two;
-    bit_of(one.high) + bit_of(one.low) * 2 + bit_of(two.high) * 4 + bit_of(two.low) * 8
+    u8::from(one.high) + u8::from(one.low) * 2 + u8::from(two.high) * 4 + u8::from(two.low) * 8
 }
 
 // The status entries of both points stand in a row, a byte for each side.
-fn put_trips(values: &mut [u8], t: Trips)
-    requires { length values.old ≡ 1024 }
+fn put_trips(values: &mut Values, t: Trips)
     ensures { values.new ≡ with_trip_entries t values.old }
 {
     let one = t.one;
@@ -76,13 +74,12 @@ fn put_trips(values: &mut [u8], t: Trips)
         two.high,
         two.low,
     );
-    let word = word_of(t) as u32;
-    wire::put_word(values, place::TRIP_OUTPUTS, word);
+    u32::from(word_of(t)).put(values, place::TRIP_OUTPUTS);
 }
 
 // A sample whose pressure is usable.
-fn take_usable(values: &mut [u8], was: Trips, p: f32) -> Trips
-    requires { (length values.old ≡ 1024) × (is_nan p ≡ false) }
+fn take_usable(values: &mut Values, was: Trips, p: f32) -> Trips
+    requires { is_nan p ≡ false }
     ensures trips { result ≡ trips_next values.old was p }
     ensures values { values.new ≡ with_trip_entries (trips_next values.old was p) (with_pressure p values.old) }
 {
@@ -93,27 +90,25 @@ fn take_usable(values: &mut [u8], was: Trips, p: f32) -> Trips
 }
 
 // A sample whose pressure is not usable turns both points off: no settings are read.
-fn take_unusable(values: &mut [u8]) -> Trips
-    requires { length values.old ≡ 1024 }
+fn take_unusable(values: &mut Values) -> Trips
     ensures trips { result ≡ all_off }
     ensures values { values.new ≡ with_trip_entries all_off (with_none values.old) }
 {
-    wire::put_byte(values, place::READING_VALID, 0);
+    0u8.put(values, place::READING_VALID);
     let off = trip::all_off();
     put_trips(values, off);
     off
 }
 
 // Reading and trips. Each way stores for itself, so that the two do not have to be joined.
-fn take(values: &mut [u8], was: Trips, p: f32, valid: u8) -> Trips
-    requires { length values.old ≡ 1024 }
+fn take(values: &mut Values, was: Trips, p: f32, valid: u8) -> Trips
     ensures trips { result ≡ trips_after values.old was p valid }
     ensures values { values.new ≡ with_trip_entries (trips_after values.old was p valid) (with_reading p valid values.old) }
 {
-    if trip::usable(p, valid) {
-        return take_usable(values, was, p);
+    match trip::usable(p, valid) {
+        Some(p) => take_usable(values, was, p),
+        None => take_unusable(values),
     }
-    take_unusable(values)
 }
 
 fn keep(faults: u32) -> u32
@@ -122,16 +117,14 @@ fn keep(faults: u32) -> u32
     faults & 0x603
 }
 
-fn put_faults(values: &mut [u8], faults: u32)
-    requires { length values.old ≡ 1024 }
+fn put_faults(values: &mut Values, faults: u32)
     ensures { values.new ≡ with_faults faults values.old }
 {
     let active = keep(faults);
-    let latched = active | wire::word_at(values, place::LATCHED_WORD);
-    let wide = active as u64;
-    wire::put_number(values, place::SENSOR_ERROR, 2, wide);
-    wire::put_word(values, place::ACTIVE_WORD, active);
-    wire::put_word(values, place::LATCHED_WORD, latched);
+    let latched = active | u32::at(values, place::LATCHED_WORD);
+    (active as u16).put(values, place::SENSOR_ERROR);
+    active.put(values, place::ACTIVE_WORD);
+    latched.put(values, place::LATCHED_WORD);
 }
 
 // The summary byte of an active word under its mask.
@@ -142,30 +135,28 @@ fn summary_of(active: u32, mask: u32) -> u8
 }
 
 // The summary byte, worked out anew from the active word and its mask.
-pub fn put_summary(values: &mut [u8])
-    requires { length values.old ≡ 1024 }
+pub fn put_summary(values: &mut Values)
     ensures { values.new ≡ with_summary values.old }
 {
-    let active = wire::word_at(values, place::ACTIVE_WORD);
-    let mask = wire::word_at(values, place::ERROR_MASK);
-    wire::put_byte(values, place::SUMMARY_BYTE, summary_of(active, mask));
+    let active = u32::at(values, place::ACTIVE_WORD);
+    let mask = u32::at(values, place::ERROR_MASK);
+    summary_of(active, mask).put(values, place::SUMMARY_BYTE);
 }
 
 pub fn taken(
-    values: &mut [u8],
+    values: &mut Values,
     on: Trips,
     pressure: f32,
     valid: u8,
     faults: u32,
     seconds: u32,
 ) -> Trips
-    requires { length values.old ≡ 1024 }
     ensures trips { result ≡ trips_after values.old on pressure valid }
     ensures values { values.new ≡ values_after values.old on pressure valid faults seconds }
 {
     let next = take(values, on, pressure, valid);
     put_faults(values, faults);
     put_summary(values);
-    wire::put_word(values, place::POWER_ON_TIME, seconds);
+    seconds.put(values, place::POWER_ON_TIME);
     next
 }

@@ -15,7 +15,8 @@ use Rattle.wire.proofs.FlagLaws.{by_test}
 use Rattle.order.specs.Talk.{Request, Answer, opened, part_given, write_opened, part_taken, refused, dropped, no_transfer, silent}
 use Rattle.order.specs.Promise.{is_abort}
 use Rattle.sdo.specs.declared.Key.{Key}
-use Rattle.sdo.specs.declared.Heard.{Heard}
+use Rattle.sdo.specs.declared.Message.{Message}
+use Rattle.std.specs.Prelude.{Option}
 use Rattle.sdo.specs.Eight.{heard_of, request_heard, answer_of, tell_of, short}
 use Rattle.sdo.specs.Long.{asked_with, ask_long, long_answer, told_with, tell_long, CarriedLong}
 use Rattle.sdo.proofs.Facts.{short_bounds}
@@ -24,7 +25,7 @@ use Rattle.sdo.proofs.HeardLaws.{ask_is}
 
 -- ---- what is asked: what the eight bytes say, with what stands behind them
 
-pub long_request : (s : List ℕ) (h : Heard) → heard_of s ≡ h → ask_long s ≡ asked_with (request_heard h s) s
+pub long_request : (s : List ℕ) (h : Option Message) → heard_of s ≡ h → ask_long s ≡ asked_with (request_heard h s) s
 unfolding ask_long
 long_request s h e = ap (λ (a : Request Key). asked_with a s) (ask_is s h e)
 

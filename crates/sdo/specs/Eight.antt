@@ -1,6 +1,6 @@
 -- RULE: EIGHT BYTES IN, EIGHT BYTES OUT: `ask_of` is what a message asks, `answer_of` the bytes of an answer, and `tell_of` what a client
 -- reads in them. Bits and bytes of a message that no rule names are not looked at (R5.11).
-use Rattle.std.specs.Prelude.{ℕ, zero, suc, ◌+◌, ◌-◌, ◌*◌, ◌/◌, ◌%◌, ◌≤◌, ◌<◌, ◌≡◌, Bool, true, false, cond, ◌&&◌, List, [], ◌∷◌, ◌++◌, T, eqb, leb, length, take, drop, get_or, replicate}
+use Rattle.std.specs.Prelude.{ℕ, zero, suc, ◌+◌, ◌-◌, ◌*◌, ◌/◌, ◌%◌, ◌≤◌, ◌<◌, ◌≡◌, Bool, true, false, cond, ◌&&◌, List, [], ◌∷◌, ◌++◌, T, eqb, leb, length, take, drop, get_or, replicate, Option, Some, None}
 use Rattle.std.proofs.Common.{arith, le_refl}
 use Rattle.std.proofs.Math.Option.{none, some}
 use Rattle.wire.specs.Little.{little, number}
@@ -12,8 +12,6 @@ use Rattle.sdo.specs.declared.Opening.{Opening}
 use Rattle.sdo.specs.declared.Opening.TheVariants.{Value, Own, Announced, Unsaid}
 use Rattle.sdo.specs.declared.Message.{Message}
 use Rattle.sdo.specs.declared.Message.TheVariants.{SendPart, OpenWrite, OpenRead, NextPart, Unknown}
-use Rattle.sdo.specs.declared.Heard.{Heard}
-use Rattle.sdo.specs.declared.Heard.TheVariants.{GiveUp, Asks}
 
 -- R5.1
 abbrev pub key_of : List ℕ → Key
@@ -45,17 +43,17 @@ opening_by false false m = Unsaid
 abbrev pub opening_of : List ℕ → Opening
 opening_of m = opening_by (has 2 (get_or m 0 0)) (has 1 (get_or m 0 0)) m
 
--- what a message says; a part is laid out as an answer's (R5.4, R5.8)
-unfoldable pub heard_of : List ℕ → Heard
+-- what a message says, none for the client's abort; a part is laid out as an answer's (R5.4, R5.8)
+unfoldable pub heard_of : List ℕ → Option Message
 unfolding choice opening_by
 heard_of m =
     choice (get_or m 0 0 / 32)
-    (Asks (SendPart (has 16 (get_or m 0 0)) (7 - get_or m 0 0 / 2 % 8) (has 1 (get_or m 0 0))))
-    (Asks (OpenWrite (key_of m) (opening_of m)))
-    (Asks (OpenRead (key_of m)))
-    (Asks (NextPart (has 16 (get_or m 0 0))))
-    GiveUp
-    (Asks Unknown)
+    (Some (SendPart (has 16 (get_or m 0 0)) (7 - get_or m 0 0 / 2 % 8) (has 1 (get_or m 0 0))))
+    (Some (OpenWrite (key_of m) (opening_of m)))
+    (Some (OpenRead (key_of m)))
+    (Some (NextPart (has 16 (get_or m 0 0))))
+    None
+    (Some Unknown)
 
 -- the same with the bytes of a write, which stand in the message
 unfoldable pub request_of : Message → List ℕ → Request Key
@@ -68,10 +66,10 @@ request_of (OpenRead k) m = open_read k
 request_of (NextPart t) m = next_part t
 request_of Unknown m = unknown
 
-unfoldable pub request_heard : Heard → List ℕ → Request Key
+unfoldable pub request_heard : Option Message → List ℕ → Request Key
 unfolding request_of
-request_heard GiveUp m = give_up
-request_heard (Asks a) m = request_of a m
+request_heard None m = give_up
+request_heard (Some a) m = request_of a m
 
 unfoldable pub ask_of : List ℕ → Request Key
 unfolding request_heard heard_of

@@ -4,27 +4,17 @@ ghost use Rattle.order.specs.Talk.{opened, part_given, write_opened, part_taken,
 ghost use Rattle.wire.specs.Flags.{bit};
 ghost use Rattle.sdo.specs.Eight.{answer_of, short};
 
-use crate::Key;
+use crate::{Key, PART};
 
-// The code of a wrong toggle.
+// The code of a wrong toggle: a number, since it is no entry's (table AbortCode), and this crate has no table.
 pub const WRONG_TOGGLE: u32 = 0x05030000;
 
 pub fn abort(k: Key, code: u32) -> [u8; 8]
     ensures { result ≡ answer_of (refused k code) }
 {
-    let second = code / 256;
-    let third = second / 256;
-    let fourth = third / 256;
-    [
-        0x80,
-        (k.index % 256) as u8,
-        (k.index / 256) as u8,
-        k.sub,
-        (code % 256) as u8,
-        (second % 256) as u8,
-        (third % 256) as u8,
-        (fourth % 256) as u8,
-    ]
+    let [low, high] = k.index.to_le_bytes();
+    let [a, b, c, d] = code.to_le_bytes();
+    [0x80, low, high, k.sub, a, b, c, d]
 }
 
 pub fn no_transfer() -> [u8; 8]
@@ -36,16 +26,8 @@ pub fn no_transfer() -> [u8; 8]
 pub fn write_opened(k: Key) -> [u8; 8]
     ensures { result ≡ answer_of (write_opened k) }
 {
-    [
-        0x60,
-        (k.index % 256) as u8,
-        (k.index / 256) as u8,
-        k.sub,
-        0,
-        0,
-        0,
-        0,
-    ]
+    let [low, high] = k.index.to_le_bytes();
+    [0x60, low, high, k.sub, 0, 0, 0, 0]
 }
 
 pub fn part_taken(toggle: bool) -> [u8; 8]
@@ -62,16 +44,8 @@ pub fn opened_long(k: Key, len: usize) -> [u8; 8]
     requires { len ≤ 64 }
     ensures { result ≡ answer_of (opened k len [] false) }
 {
-    [
-        0x41,
-        (k.index % 256) as u8,
-        (k.index / 256) as u8,
-        k.sub,
-        len as u8,
-        0,
-        0,
-        0,
-    ]
+    let [low, high] = k.index.to_le_bytes();
+    [0x41, low, high, k.sub, len as u8, 0, 0, 0]
 }
 
 // The byte at i of the first len bytes held, or 0 past them.
@@ -82,14 +56,11 @@ fn byte_at(held: &[u8], len: usize, i: usize) -> u8
     if i < len { held[i] } else { 0 }
 }
 
-// Is a value read with the answer that opens the read?
+// Is a value read with the answer that opens the read? Named for what the range means, in two crates.
 pub fn is_short(len: usize) -> bool
     ensures { result ≡ short len }
 {
-    if len < 1 {
-        return false;
-    }
-    len <= 4
+    (1..=4).contains(&len)
 }
 
 // The opening of a read of up to four bytes, with the value.
@@ -97,10 +68,11 @@ pub fn opened_short(k: Key, held: &[u8], len: usize) -> [u8; 8]
     requires { ((1 ≤ len) × (len ≤ 4)) × (len ≤ length held.now) }
     ensures { result ≡ answer_of (opened k len (take len held.now) true) }
 {
+    let [low, high] = k.index.to_le_bytes();
     [
         (67 + 4 * (4 - len)) as u8,
-        (k.index % 256) as u8,
-        (k.index / 256) as u8,
+        low,
+        high,
         k.sub,
         byte_at(held, len, 0),
         byte_at(held, len, 1),
@@ -127,12 +99,11 @@ pub fn part_more(held: &[u8], place: usize, toggle: bool) -> [u8; 8]
     ]
 }
 
-// Byte 0 of the last part of a read: toggle, unused bytes of seven, last mark.
-fn last_head(toggle: bool, len: usize, place: usize) -> u8
-    requires { (len ≤ 64) × (place ≤ len) × (len ≤ place + 7) }
-    ensures { result ≡ 16 * bit toggle + 2 * (7 - (len - place)) + 1 }
+// Byte 0 of the last part of a read: toggle, unused bytes, last mark.
+pub fn last_head(toggle: bool, unused: usize) -> u8
+    requires { unused ≤ 7 }
+    ensures { result ≡ 16 * bit toggle + 2 * unused + 1 }
 {
-    let unused = (place + 7) - len;
     if toggle {
         return (17 + 2 * unused) as u8;
     }
@@ -144,7 +115,7 @@ pub fn part_last(held: &[u8], len: usize, place: usize, toggle: bool) -> [u8; 8]
     ensures { result ≡ answer_of (part_given toggle (take 7 (drop place (take len held.now))) true) }
 {
     [
-        last_head(toggle, len, place),
+        last_head(toggle, place + PART - len),
         byte_at(held, len, place),
         byte_at(held, len, place + 1),
         byte_at(held, len, place + 2),

@@ -2,8 +2,8 @@
 ghost use Rattle.std.specs.Prelude.{◌≡◌, ◌≤◌, length};
 ghost use Rattle.sdo.specs.Eight.{has, key_of, opening_of, heard_of};
 
-use crate::{Heard, Key, Message, Opening};
-use wire::wide;
+use crate::{Key, Message, Opening};
+use wire::Number;
 
 pub fn bit_of(weight: u8, b: u8) -> bool
     requires { 1 ≤ weight }
@@ -16,10 +16,8 @@ pub fn key_of(m: &[u8]) -> Key
     requires { 8 ≤ length m.now }
     ensures { result ≡ key_of m.now }
 {
-    let low = wide::to_u16(m[1]);
-    let high = wide::to_u16(m[2]);
     Key {
-        index: low + 256 * high,
+        index: u16::at(m, 1),
         sub: m[3],
     }
 }
@@ -32,33 +30,34 @@ pub fn opening_of(m: &[u8]) -> Opening
     let first = m[0];
     if bit_of(2, first) {
         if bit_of(1, first) {
-            return Opening::Value(4 - wide::to_usize(first / 4 % 4));
+            return Opening::Value(4 - usize::from(first / 4 % 4));
         }
         return Opening::Own;
     }
     if bit_of(1, first) {
-        return Opening::Announced(wire::word_at(m, 4));
+        return Opening::Announced(u32::at(m, 4));
     }
     Opening::Unsaid
 }
 
-pub fn heard_of(m: &[u8]) -> Heard
+// None is the client's abort, which has no answer.
+pub fn heard_of(m: &[u8]) -> Option<Message>
     requires { 8 ≤ length m.now }
     ensures { result ≡ heard_of m.now }
 {
     let first = m[0];
     let specifier = first / 32;
     match specifier {
-        0 => Heard::Asks(Message::SendPart(
+        0 => Some(Message::SendPart(
             bit_of(16, first),
-            7 - wide::to_usize(first / 2 % 8),
+            7 - usize::from(first / 2 % 8),
             bit_of(1, first),
         )),
-        1 => Heard::Asks(Message::OpenWrite(key_of(m), opening_of(m))),
-        2 => Heard::Asks(Message::OpenRead(key_of(m))),
-        3 => Heard::Asks(Message::NextPart(bit_of(16, first))),
-        4 => Heard::GiveUp,
-        5..=7 => Heard::Asks(Message::Unknown),
-        _ => Heard::Asks(Message::Unknown),
+        1 => Some(Message::OpenWrite(key_of(m), opening_of(m))),
+        2 => Some(Message::OpenRead(key_of(m))),
+        3 => Some(Message::NextPart(bit_of(16, first))),
+        4 => None,
+        5..=7 => Some(Message::Unknown),
+        _ => Some(Message::Unknown),
     }
 }

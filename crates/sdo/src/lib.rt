@@ -17,7 +17,7 @@ pub const VALUE: usize = 4;
 pub const VALUE_AT: usize = 4;
 
 // An entry's name: index and subindex.
-#[derive(Clone, Copy)]
+#[derive(Clone, Copy, PartialEq, Eq)]
 pub struct Key {
     pub index: u16,
     pub sub: u8,
@@ -42,11 +42,4 @@ pub enum Message {
     OpenRead(Key),
     NextPart(bool),
     Unknown,
-}
-
-// What is heard: the client's abort, which has no answer, or a message that asks for one.
-#[derive(Clone, Copy)]
-pub enum Heard {
-    GiveUp,
-    Asks(Message),
 }

@@ -2,15 +2,15 @@
 use mathlib.Core.Path.{◌≡◌, ap, ◌∙◌}
 use mathlib.Core.Bool.{Bool}
 use mathlib.Core.List.{List, ◌++◌, append_assoc}
-use Prim.Native.Nat.{ℕ, ◌+◌, ◌≤◌}
+use Prim.Native.Nat.{ℕ, ◌+◌, ◌-◌, ◌≤◌}
 use native.Mathlib.Omega.{arith}
 use lib.ListN.{length, take, drop, replicate, length-append}
-use lib.Seq.{take_all}
+use borrow.Rule.Slice.PartMut.{put_mid}
 use Rattle.wire.specs.Splice.{splice}
 use Rattle.wire.specs.Little.{little, number}
 use Rattle.wire.specs.Flags.{is_set, bit}
 use Rattle.wire.proofs.LittleLaws.{length-little}
-use Rattle.wire.proofs.SpliceLaws.{length-splice, splice-whole, splice_behind, part_length}
+use Rattle.wire.proofs.SpliceLaws.{length-splice, splice-whole, splice_behind, part_length, zeros-lent}
 use Rattle.wire.proofs.Overlaps.{splice-inside}
 use Rattle.transfer.specs.declared.Direction.{Direction}
 use Rattle.transfer.specs.declared.Transfer.{Transfer}
@@ -43,13 +43,13 @@ module _ (l : List ℕ) (at : ℕ) (t : Transfer) (room : at + record_size ≤ l
       )
       (simp append_assoc))
 
-  pub record_put : {l₁ l₂ : List ℕ} → length t.held ≡ 64 → l₁ ≡ splice l at (take 64 (drop 0 t.held)) → l₂ ≡ splice l₁ (at + 64) (record_tail t)
+  pub record_put : {l₁ l₂ : List ℕ} → length t.held ≡ 64 → l₁ ≡ splice l at t.held → l₂ ≡ splice l₁ (at + 64) (record_tail t)
       → l₂ ≡ splice l at (record_bytes t)
   unfolding record_bytes record_tail
   record_put n e₁ e₂ =
       let tail : List ℕ = record_tail t in
       let long : length tail ≡ 6 = simp (length-append, length-little) in
-      rw (e₂, e₁, take_all 64 t.held (omega arith)) (splice_behind l at t.held tail (at + 64) (omega arith) (omega arith))
+      rw (e₂, e₁) (splice_behind l at t.held tail (at + 64) (omega arith) (omega arith))
 
 -- a part of a write: its bytes, and what stands behind the held ones
 pub part_put : (l : List ℕ) (at : ℕ) (t : Transfer) (bytes : List ℕ) → at + record_size ≤ length l → t ≡ record_at l at → t.place + length bytes ≤ 64
@@ -66,6 +66,9 @@ part_put l at t bytes room is fits e₁ en e₂ =
     e₂ ∙ rw (e₁, en) (rw (← s) (splice_behind l at h tail (at + 64) (omega arith) (omega arith)))
 
 -- an ended transfer's record
-pub record_cleared : (l : List ℕ) (at : ℕ) {l' : List ℕ} → l' ≡ splice l at (take 70 (drop 0 (replicate 70 0))) → l' ≡ splice l at (record_bytes zero_record)
+pub record_cleared : (l : List ℕ) (at : ℕ) {zeros : List ℕ} → at + record_size ≤ length l → zeros ≡ replicate (length (take (at + 70 - at) (drop at l))) 0
+    → put_mid at (at + 70 - at) l zeros ≡ splice l at (record_bytes zero_record)
 unfolding record_bytes record_tail direction_byte little
-record_cleared l at e = e
+record_cleared l at room e =
+    let n : at + 70 - at ≡ 70 = omega arith in
+    zeros-lent l at (at + 70) (omega arith) room e ∙ ap (λ (k : ℕ). splice l at (replicate k 0)) n

@@ -9,3 +9,4 @@ pub mod Areas
 pub mod Placed
 pub mod CommandRows
 pub mod DefaultWords
+pub mod Accesses

@@ -7,3 +7,4 @@ pub mod Find
 pub mod Halve
 pub mod Places
 pub mod Areas
+pub mod Access

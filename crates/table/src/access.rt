@@ -1,4 +1,7 @@
-// The accesses, as in specs/Row, as far as code asks for them.
-pub const RO: u8 = 1;
-
-pub const WO: u8 = 2;
+// The accesses of an entry (R1.5).
+#[derive(Clone, Copy, PartialEq, Eq)]
+pub enum Access {
+    ReadWrite,
+    ReadOnly,
+    WriteOnly,
+}

@@ -1,16 +1,39 @@
-// The codes of what is refused by its key, its length, the lock or a crossed trip point, as in specs/Codes and order/specs/Gauge.
-pub const INDEX_ABSENT: u32 = 0x06020000;
+// Why a read or a write of an entry is refused.
+ghost use Rattle.std.specs.Prelude.{◌≡◌};
+ghost use Rattle.table.specs.Codes.{code_of};
 
-pub const SUBINDEX_ABSENT: u32 = 0x06090011;
+#[derive(Clone, Copy, PartialEq, Eq)]
+pub enum AbortCode {
+    IndexAbsent,
+    SubindexAbsent,
+    WriteOnly,
+    ReadOnly,
+    TooLong,
+    TooShort,
+    LockShut,
+    NotANumber,
+    TooHigh,
+    TooLow,
+    LeftCrossed,
+}
 
-pub const WRITE_ONLY: u32 = 0x06010001;
+// Its abort code.
+impl From<AbortCode> for u32 {
+    ghost from_gives = { λ abort code. code ≡ code_of abort };
 
-pub const READ_ONLY: u32 = 0x06010002;
-
-pub const TOO_LONG: u32 = 0x06070012;
-
-pub const TOO_SHORT: u32 = 0x06070013;
-
-pub const LOCK_SHUT: u32 = 0x08000022;
-
-pub const LEFT_CROSSED: u32 = 0x06090036;
+    fn from(abort: AbortCode) -> u32 {
+        match abort {
+            AbortCode::IndexAbsent => 0x06020000,
+            AbortCode::SubindexAbsent => 0x06090011,
+            AbortCode::WriteOnly => 0x06010001,
+            AbortCode::ReadOnly => 0x06010002,
+            AbortCode::TooLong => 0x06070012,
+            AbortCode::TooShort => 0x06070013,
+            AbortCode::LockShut => 0x08000022,
+            AbortCode::NotANumber => 0x06090030,
+            AbortCode::TooHigh => 0x06090031,
+            AbortCode::TooLow => 0x06090032,
+            AbortCode::LeftCrossed => 0x06090036,
+        }
+    }
+}

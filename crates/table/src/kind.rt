@@ -1,4 +1,5 @@
-// The types, as in specs/Row: up to REAL one number each.
+// The types, as in specs/Row: up to REAL one number each. Numbers and no enum: they are decided over with ranges (R16.6), and what find's kind_in
+// and limits' rank_of, judge_number and number_by say of every number (docs/PROMISES.md) an enum of nine would leave out.
 pub const BOOL: u8 = 0;
 
 pub const USINT: u8 = 1;

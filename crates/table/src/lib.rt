@@ -6,3 +6,8 @@ pub mod code;
 pub mod kind;
 pub mod place;
 pub mod row;
+
+// The live values and the saved block, of every board.
+pub type Values = [u8; 1024];
+
+pub type Block = [u8; 512];

@@ -1,7 +1,7 @@
 -- A line's turn, case by case; a byte's and a chunk's. Assumes nothing.
 use mathlib.Core.Bool.{Bool, true, false}
 use mathlib.Core.List.{List}
-use mathlib.Core.Path.{◌≡◌, sym, ap, ◌∙◌}
+use mathlib.Core.Path.{◌≡◌, refl, sym, ap, ◌∙◌}
 use Prim.Native.Nat.{ℕ, ◌+◌, ◌≤◌, ◌<◌}
 use native.Mathlib.Numerals.{add-one}
 use lib.ListN.{length, take, drop, get_or, replicate, drop_of_length-le}
@@ -9,30 +9,28 @@ use lib.Seq.{drop-cons}
 use borrow.Author.Tests.{eq-eqb, ne_eqb}
 use Rattle.board.specs.Calls.{called, message_call}
 use Rattle.dialogue.specs.declared.Spoken.{Spoken}
-use Rattle.dialogue.specs.declared.Pending.{Pending}
-use Rattle.dialogue.specs.Text.{answer_text, none_text, unknown_text}
+use Rattle.std.specs.Prelude.{Option, Some, None}
+use Rattle.dialogue.specs.Text.{answer_text, none_text, spoken}
+use Rattle.dialogue.specs.declared.hear.Pending.{Pending}
 use Rattle.dialogue.specs.Lines.{after, pending_spoken}
 use Rattle.dialogue.proofs.TextLaws.{spoken-line}
-use Rattle.talk.specs.Turns.{Memory, memory, Turn, turn, answered_turn, taken}
+use Rattle.talk.specs.declared.serve.Memory.{Memory}
+use Rattle.talk.specs.Turns.{memory, Turn, turn, answered_turn, taken, OnLines}
 use Rattle.talk.specs.Run.{Progress, progress, after_line, served_if, after_byte, after_bytes}
 
-pub unknown-taken : (s : Spoken) (m : Memory) (text : List ℕ) → s.message ≡ false → text ≡ unknown_text → turn text m ≡ taken s m
-unfolding taken
-unknown-taken s m text h e = rw (h, e)
-
-module _ (s : Spoken) (m : Memory) (number : ℕ) (v b st answer text : List ℕ) (h : s.message ≡ true) (e : called number v b st answer ≡ message_call s.line s.eight m.values m.block m.state (replicate 8 0)) where
-  pub none_taken : number ≡ 5 → text ≡ none_text s.line → turn text (memory v b st) ≡ taken s m
+module _ (s : Spoken) (m : Memory) (number : ℕ) (v b st answer text : List ℕ) (e : called number v b st answer ≡ message_call s.line s.eight m.values m.block m.state (replicate 8 0)) where
+  pub none_taken : number ≡ 5 → text ≡ none_text s.line → turn text (memory v b st) ≡ taken (Some s) m
   unfolding taken answered_turn
-  none_taken k t = rw (h, ← e, eq-eqb number 5 k, t)
+  none_taken k t = rw (← e, eq-eqb number 5 k, t)
 
-  pub answer-taken : (number ≡ 5 → ⊥) → text ≡ answer_text s.line answer → turn text (memory v b st) ≡ taken s m
+  pub answer-taken : (number ≡ 5 → ⊥) → text ≡ answer_text s.line answer → turn text (memory v b st) ≡ taken (Some s) m
   unfolding taken answered_turn
-  answer-taken k t = rw (h, ← e, ne_eqb number 5 k, t)
+  answer-taken k t = rw (← e, ne_eqb number 5 k, t)
 
 -- the line that has come, from what it says
-pub line_taken : (p : Pending) (s : Spoken) (m left : Memory) (text : List ℕ) → s ≡ pending_spoken p → turn text left ≡ taken s m → left ≡ after_line p m
+pub line_taken : (p : Pending) (s : Option Spoken) (m left : Memory) (text : List ℕ) → s ≡ pending_spoken p → turn text left ≡ taken s m → left ≡ after_line p m
 unfolding after_line
-line_taken p s m left text h e = ap (λ (t : Turn). t.left) e ∙ ap (λ (x : Spoken). (taken x m).left) h
+line_taken p s m left text h e = ap (λ (t : Turn). t.left) e ∙ ap (λ (x : Option Spoken). (taken x m).left) h
 
 served_true : (e : Bool) (p : Pending) (m : Memory) → e ≡ true → served_if e p m ≡ progress p (after_line p m)
 unfolding served_if
@@ -61,6 +59,10 @@ pub bytes-done : (bytes : List ℕ) (i : ℕ) (g all : Progress) → length byte
 unfolding after_bytes
 bytes-done bytes i g all h e = sym (ap (after_bytes g) (drop_of_length-le bytes {i = i} h)) ∙ e
 
-pub pending-line : (p : Pending) → (pending_spoken p).line < 2
+pub pending-line : (p : Pending) → OnLines (pending_spoken p)
 unfolding pending_spoken
-pending-line p = spoken-line (take p.count p.text)
+pending-line p = go (spoken (take p.count p.text)) refl
+  where
+    go : (o : Option Spoken) → spoken (take p.count p.text) ≡ o → OnLines o
+    go (Some s) e = spoken-line (take p.count p.text) s e
+    go None e = tt

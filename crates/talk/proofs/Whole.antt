@@ -6,11 +6,12 @@ use Prim.Native.Nat.{ℕ, ◌+◌, ◌<◌}
 use native.Mathlib.Numerals.{add-one}
 use lib.ListN.{length, take, get_or}
 use lib.Seq.{take-suc}
-use Rattle.dialogue.specs.declared.Pending.{Pending}
 use Rattle.dialogue.specs.Text.{spoken}
+use Rattle.dialogue.specs.declared.hear.Pending.{Pending}
 use Rattle.dialogue.specs.Lines.{lines, nothing_yet, after, pending_spoken, left_over, lines_heard}
 use Rattle.dialogue.proofs.Hearing.{heard}
-use Rattle.talk.specs.Turns.{Memory, taken}
+use Rattle.talk.specs.declared.serve.Memory.{Memory}
+use Rattle.talk.specs.Turns.{taken}
 use Rattle.talk.specs.Run.{Progress, progress, after_line, served_if, after_byte, after_bytes, after_end, after_lines}
 
 module _ (bs : List ℕ) (rest : (p : Pending) (m : Memory) → after_end (after_bytes (progress p m) bs) ≡ after_lines m (lines_heard p bs)) where

@@ -1,9 +1,10 @@
 -- RULE: THE MEMORY OVER A WHOLE INPUT: byte by byte as the program goes, and line by line. Both come to the same (proofs/Whole.antt).
-use Rattle.std.specs.Prelude.{◌≡◌, ◌<◌, ◌+◌, Bool, true, false, cond, List, [], ◌∷◌, length, take, ℕ}
+use Rattle.std.specs.Prelude.{◌≡◌, ◌<◌, ◌+◌, Bool, true, false, cond, List, [], ◌∷◌, length, take, ℕ, Option}
 use Rattle.dialogue.specs.declared.Spoken.{Spoken}
-use Rattle.dialogue.specs.declared.Pending.{Pending}
+use Rattle.dialogue.specs.declared.hear.Pending.{Pending}
 use Rattle.dialogue.specs.Lines.{after, pending_spoken, left_over}
-use Rattle.talk.specs.Turns.{Memory, taken}
+use Rattle.talk.specs.declared.serve.Memory.{Memory}
+use Rattle.talk.specs.Turns.{taken}
 
 pub record Progress : Type 0 where
   pub pending : Pending
@@ -37,6 +38,6 @@ unfoldable pub after_end : Progress → Memory
 after_end g = cond (left_over g.pending) (after_line g.pending g.left) g.left
 
 -- line by line
-unfoldable pub after_lines : Memory → List Spoken → Memory
+unfoldable pub after_lines : Memory → List (Option Spoken) → Memory
 after_lines m [] = m
 after_lines m (s ∷ ss) = after_lines (taken s m).left ss

@@ -1,14 +1,9 @@
 -- RULE: ONE TEXT LINE'S TURN (R17.1): what is printed, and what the board's memory is then.
-use Rattle.std.specs.Prelude.{cond, List, ℕ, eqb, replicate}
+use Rattle.std.specs.Prelude.{cond, List, ℕ, ◌<◌, eqb, replicate, Option, Some, None}
 use Rattle.board.specs.Calls.{Called, message_call}
 use Rattle.dialogue.specs.declared.Spoken.{Spoken}
+use Rattle.talk.specs.declared.serve.Memory.{Memory}
 use Rattle.dialogue.specs.Text.{answer_text, none_text, unknown_text}
-
--- what the board is lent
-pub record Memory : Type 0 where
-  pub values : List ℕ
-  pub block : List ℕ
-  pub state : List ℕ
 
 abbrev pub memory : List ℕ → List ℕ → List ℕ → Memory
 memory values block state = record { values = values; block = block; state = state }
@@ -27,8 +22,11 @@ answered_turn line c =
     (memory c.values c.block c.state)
 
 -- a message is served by the board; any other text line prints a question mark, and nothing happens (R17.2)
-unfoldable pub taken : Spoken → Memory → Turn
-taken s m =
-    cond s.message
-    (answered_turn s.line (message_call s.line s.eight m.values m.block m.state (replicate 8 0)))
-    (turn unknown_text m)
+unfoldable pub taken : Option Spoken → Memory → Turn
+taken (Some s) m = answered_turn s.line (message_call s.line s.eight m.values m.block m.state (replicate 8 0))
+taken None m = turn unknown_text m
+
+-- a message is on line 0 or 1
+abbrev pub OnLines : Option Spoken → Type 0
+OnLines (Some s) = s.line < 2
+OnLines None = Unit {0}

@@ -3,75 +3,55 @@
 
 mod serve;
 
-ghost use Rattle.std.specs.Prelude.{◌≤◌, IfOk};
-
-use dialogue::{Pending, hear};
+use dialogue::hear::Pending;
+use serve::Memory;
 use std::io;
 use std::io::{Input, Read};
 
-// The line that is coming, and whether the input is over.
-#[derive(Clone, Copy)]
-struct Heard {
-    pub pending: Pending,
-    pub over: bool,
-}
-
-// Reads once and serves the lines that end in what came.
+// Reads once and serves the lines that end in what came. May more come?
 fn hear_some(
     rt: &impl Print,
     input: &mut impl Read,
-    pending: Pending,
-    values: &mut [u8],
-    block: &mut [u8],
-    state: &mut [u8],
-) -> io::Result<Heard>
-    requires { pending.count ≤ 20 }
-    ensures { IfOk result (λ heard. heard.pending.count ≤ 20) }
-{
+    pending: &mut Pending,
+    memory: &mut Memory,
+) -> io::Result<bool> {
     let mut buffer = [0u8; 4096];
     let count = input.read(&mut buffer)?;
-    if count == 0 {
-        return Ok(Heard {
-            pending,
-            over: true,
-        });
-    }
-    let next = serve::serve_bytes(rt, &buffer[..count], pending, values, block, state)?;
-    Ok(Heard {
-        pending: next,
-        over: false,
-    })
+    serve::serve_bytes(rt, &buffer[..count], pending, memory)?;
+    Ok(0 < count)
 }
 
 // A proved loop has to end, and nothing says that the input does. So it counts its reads, up to a number that no run comes to.
 fn hear_all(
     rt: &impl Print,
     input: &mut impl Read,
-    values: &mut [u8],
-    block: &mut [u8],
-    state: &mut [u8],
-) -> io::Result<Pending>
-    ensures { IfOk result (λ last. last.count ≤ 20) }
-{
-    let mut pending = hear::begun();
+    pending: &mut Pending,
+    memory: &mut Memory,
+) -> io::Result<()> {
     for _ in 0..u64::MAX {
-        let heard = hear_some(rt, input, pending, values, block, state)?;
-        pending = heard.pending;
-        if heard.over {
+        if !hear_some(rt, input, pending, memory)? {
             break;
         }
     }
-    Ok(pending)
+    Ok(())
 }
 
 fn main(rt: HostRuntime) -> io::Result<()> {
-    let mut values = [0u8; board::VALUES_SIZE];
-    let mut block = [0u8; board::BLOCK_SIZE];
-    let mut state = [0u8; board::STATE_SIZE];
-    board::gauge_power_up(board::FORM_EIGHT, &mut values, &block, &mut state);
-    let last = hear_all(&rt, &mut rt.reader(), &mut values, &mut block, &mut state)?;
-    if hear::is_left(last) {
-        serve::serve_line(&rt, last, &mut values, &mut block, &mut state)?;
+    let mut memory = Memory {
+        values: [0u8; board::VALUES_SIZE],
+        block: [0u8; board::BLOCK_SIZE],
+        state: [0u8; board::STATE_SIZE],
+    };
+    board::gauge_power_up(
+        board::FORM_EIGHT,
+        &mut memory.values,
+        &memory.block,
+        &mut memory.state,
+    );
+    let mut pending = Pending::new();
+    hear_all(&rt, &mut rt.reader(), &mut pending, &mut memory)?;
+    if pending.is_left() {
+        serve::serve_line(&rt, &pending, &mut memory)?;
     }
     Ok(())
 }

@@ -1,29 +1,39 @@
 // Lines are served: each gets its reply at once.
-ghost use Rattle.std.specs.Prelude.{◌≡◌, ◌≤◌, ◌<◌, length, take, IfOk, OnErr};
-ghost use Rattle.talk.specs.Turns.{memory, turn, taken};
+ghost use Rattle.std.specs.Prelude.{◌≡◌, ◌≤◌, Option, length, take, IfOk, OnErr};
+ghost use Rattle.talk.specs.Turns.{turn, taken, OnLines};
 ghost use Rattle.talk.specs.Run.{progress, after_line, after_byte, after_bytes, SomeTaken};
 
-use dialogue::{Pending, Spoken, hear, print};
+use dialogue::hear::Pending;
+use dialogue::{Spoken, print};
 use std::io;
 
+// What the board is lent.
+#[derive(Clone, Copy)]
+pub struct Memory {
+    pub values: [u8; board::VALUES_SIZE],
+    pub block: [u8; board::BLOCK_SIZE],
+    pub state: [u8; board::STATE_SIZE],
+}
+
 // Puts the reply to a line at the start of the room and gives its length.
-fn reply(
-    spoken: Spoken,
-    values: &mut [u8],
-    block: &mut [u8],
-    state: &mut [u8],
-    room: &mut [u8],
-) -> usize
-    requires { (spoken.line < 2) × (19 ≤ length room.old) }
-    ensures { (result ≤ 19) × (turn (take result room.new) (memory values.new block.new state.new) ≡ taken spoken (memory values.old block.old state.old)) }
+fn reply(spoken: Option<Spoken>, memory: &mut Memory, room: &mut [u8]) -> usize
+    requires { OnLines spoken × (19 ≤ length room.old) }
+    ensures { (result ≤ 19) × (turn (take result room.new) memory.new ≡ taken spoken memory.old) }
 {
-    if !spoken.message {
+    let Some(message) = spoken else {
         return print::put_unknown(room);
-    }
-    let line = spoken.line;
-    let eight = spoken.eight;
+    };
+    let line = message.line;
+    let eight = message.eight;
     let mut answer = [0u8; 8];
-    let number = board::gauge_message(line as u32, &eight, values, block, state, &mut answer);
+    let number = board::gauge_message(
+        u32::from(line),
+        &eight,
+        &mut memory.values,
+        &mut memory.block,
+        &mut memory.state,
+        &mut answer,
+    );
     let unanswered = number == 5;
     if unanswered {
         return print::put_none(room, line);
@@ -32,61 +42,42 @@ fn reply(
 }
 
 // Prints the reply to the line that has come.
-pub fn serve_line(
-    rt: &impl Print,
-    pending: Pending,
-    values: &mut [u8],
-    block: &mut [u8],
-    state: &mut [u8],
-) -> io::Result<()>
-    requires { pending.count ≤ 20 }
-    ensures { memory values.new block.new state.new ≡ after_line pending (memory values.old block.old state.old) }
+pub fn serve_line(rt: &impl Print, pending: &Pending, memory: &mut Memory) -> io::Result<()>
+    ensures { memory.new ≡ after_line pending.now memory.old }
 {
     let mut room = [0u8; 19];
-    let spoken = hear::said(pending);
-    let count = reply(spoken, values, block, state, &mut room);
+    let count = reply(pending.said(), memory, &mut room);
     rt.write_all(&room[..count])
 }
 
-// Takes one byte of the input; a line that ends with it is served.
+// Takes one byte of the input; a line that ends with it is served. Where its reply is not printed, the byte was taken.
 fn serve_byte(
     rt: &impl Print,
-    begun: Pending,
+    pending: &mut Pending,
     byte: u8,
-    values: &mut [u8],
-    block: &mut [u8],
-    state: &mut [u8],
-) -> io::Result<Pending>
-    requires { begun.count ≤ 20 }
-    ensures ok { IfOk result (λ next. (next.count ≤ 20) × (progress next (memory values.new block.new state.new) ≡ after_byte (progress begun (memory values.old block.old state.old)) byte)) }
-    ensures err { OnErr result (memory values.new block.new state.new ≡ (after_byte (progress begun (memory values.old block.old state.old)) byte).left) }
+    memory: &mut Memory,
+) -> io::Result<()>
+    ensures { progress pending.new memory.new ≡ after_byte (progress pending.old memory.old) byte }
 {
-    let pending = hear::with_byte(begun, byte);
+    pending.push(byte);
     if pending.ended {
-        serve_line(rt, pending, values, block, state)?;
-        return Ok(pending);
+        serve_line(rt, pending, memory)?;
     }
-    Ok(pending)
+    Ok(())
 }
 
-// Takes these bytes of the input, and gives what has come of the next line. Where a reply is not printed, the bytes up to the end of its line were taken.
+// Takes these bytes of the input. Where a reply is not printed, the bytes up to the end of its line were taken.
 pub fn serve_bytes(
     rt: &impl Print,
     bytes: &[u8],
-    begun: Pending,
-    values: &mut [u8],
-    block: &mut [u8],
-    state: &mut [u8],
-) -> io::Result<Pending>
-    requires { begun.count ≤ 20 }
-    ensures ok { IfOk result (λ next. (next.count ≤ 20) × (progress next (memory values.new block.new state.new) ≡ after_bytes (progress begun (memory values.old block.old state.old)) bytes.now)) }
-    ensures err { OnErr result (SomeTaken (progress begun (memory values.old block.old state.old)) bytes.now (memory values.new block.new state.new)) }
+    pending: &mut Pending,
+    memory: &mut Memory,
+) -> io::Result<()>
+    ensures ok { IfOk result (λ _. progress pending.new memory.new ≡ after_bytes (progress pending.old memory.old) bytes.now) }
+    ensures err { OnErr result (SomeTaken (progress pending.old memory.old) bytes.now memory.new) }
 {
-    let mut pending = begun;
-    let mut i = 0;
-    while i < bytes.len() {
-        pending = serve_byte(rt, pending, bytes[i], values, block, state)?;
-        i += 1;
+    for byte in bytes {
+        serve_byte(rt, pending, *byte, memory)?;
     }
-    Ok(pending)
+    Ok(())
 }

@@ -25,7 +25,7 @@ use Rattle.transfer.specs.declared.Direction.{Direction}
 use Rattle.transfer.specs.declared.Direction.TheVariants.{Neither, Reads, Writes}
 use Rattle.transfer.specs.declared.Transfer.{Transfer}
 use Rattle.transfer.specs.Records.{zero_record, key_at, row_of, allows, RowOf, counts, pending, view, zero_record_at, base, lay}
-use Rattle.transfer.specs.Turns.{is_reading, is_writing, filled, opened_record, turned, grown}
+use Rattle.transfer.specs.Turns.{goes, is_reading, is_writing, filled, opened_record, turned, grown}
 
 -- a transfer of an entry whose row allows it, of a length that its values may have, with its place inside
 pub record Fits (d : Direction) (row : ℕ) (k : Key) (len place : ℕ) : Type 0 where
@@ -179,14 +179,10 @@ served_small t (inr e) = rw e (record { row_fits = omega arith; len-fits = omega
 
 -- ---- a part, by whether the record holds a transfer of its direction
 
-pub and_first : (a b : Bool) → a ≡ true → b ≡ (a && b)
-and_first true b e = refl
-and_first false b e = cc
-
 module _ (t : Transfer) where
   -- a record that reads is seen as a read of the bytes that it holds
   pub view-reading : (is_reading t.direction && counts t) ≡ true → view t ≡ reading (key_at t.row) (take t.len t.held) t.place t.toggle
-  unfolding view pending is_reading
+  unfolding view pending goes
   view-reading = go t.direction (counts t)
     where
       go : (d : Direction) (c : Bool) → (is_reading d && c) ≡ true → cond c (pending d t) idle ≡ reading (key_at t.row) (take t.len t.held) t.place t.toggle
@@ -197,7 +193,7 @@ module _ (t : Transfer) where
 
   -- one that writes, as a write of the row's length
   pub view-writing : (is_writing t.direction && counts t) ≡ true → view t ≡ writing (key_at t.row) t.len t.len (take t.place t.held) t.toggle
-  unfolding view pending is_writing
+  unfolding view pending goes
   view-writing = go t.direction (counts t)
     where
       go : (d : Direction) (c : Bool) → (is_writing d && c) ≡ true → cond c (pending d t) idle ≡ writing (key_at t.row) t.len t.len (take t.place t.held) t.toggle
@@ -209,7 +205,7 @@ module _ (t : Transfer) where
   module _ (E : Entries) where
     -- the part of a read that the record does not hold
     pub no_reading : (F : Form) (u : Bool) → (is_reading t.direction && counts t) ≡ false → read_part (gauge E) F (view t) u ≡ over (gauge E) no_transfer
-    unfolding view pending is_reading read_part
+    unfolding view pending goes read_part
     no_reading F u = go t.direction (counts t)
       where
         go : (d : Direction) (c : Bool) → (is_reading d && c) ≡ false → read_part (gauge E) F (cond c (pending d t) idle) u ≡ over (gauge E) no_transfer
@@ -222,7 +218,7 @@ module _ (t : Transfer) where
 
     pub no_writing : (g : E.Store) (u : Bool) (bytes : List ℕ) (last : Bool) → (is_writing t.direction && counts t) ≡ false
         → write_part (gauge E) g (view t) u bytes last ≡ keeping (gauge E) g (over (gauge E) no_transfer)
-    unfolding view pending is_writing write_part
+    unfolding view pending goes write_part
     no_writing g u bytes last = go t.direction (counts t)
       where
         go : (d : Direction) (c : Bool) → (is_writing d && c) ≡ false → write_part (gauge E) g (cond c (pending d t) idle) u bytes last ≡ keeping (gauge E) g (over (gauge E) no_transfer)

@@ -5,15 +5,23 @@ use Rattle.transfer.specs.declared.Direction.{Direction}
 use Rattle.transfer.specs.declared.Direction.TheVariants.{Neither, Reads, Writes}
 use Rattle.transfer.specs.declared.Transfer.{Transfer}
 
-unfoldable pub is_reading : Direction → Bool
-is_reading Neither = false
-is_reading Reads = true
-is_reading Writes = false
+-- does a transfer with the second go in the first?
+unfoldable pub goes : Direction → Direction → Bool
+goes Neither Neither = true
+goes Neither Reads = false
+goes Neither Writes = false
+goes Reads Neither = false
+goes Reads Reads = true
+goes Reads Writes = false
+goes Writes Neither = false
+goes Writes Reads = false
+goes Writes Writes = true
 
-unfoldable pub is_writing : Direction → Bool
-is_writing Neither = false
-is_writing Reads = false
-is_writing Writes = true
+abbrev pub is_reading : Direction → Bool
+is_reading d = goes Reads d
+
+abbrev pub is_writing : Direction → Bool
+is_writing d = goes Writes d
 
 -- 64 bytes that begin with these, then zeros
 abbrev pub filled : List ℕ → List ℕ

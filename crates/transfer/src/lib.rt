@@ -1,23 +1,24 @@
 // A line's transfer by value: whether it counts, and the record after an opening or a part.
 #![tactic(auto)]
 
-ghost use Rattle.std.specs.Prelude.{◌&&◌, ◌≡◌, ◌+◌, ◌≤◌, ◌<◌, length, take, drop, leb};
-ghost use Rattle.table.specs.Rows.{row_count};
-ghost use Rattle.find.specs.Columns.{smallest_in, largest_in};
+ghost use Rattle.std.specs.Prelude.{cond, ◌&&◌, ◌≡◌, ◌+◌, ◌≤◌, Some, None, length};
+ghost use Rattle.table.specs.Access.{access_number};
 ghost use Rattle.transfer.specs.Records.{key_at, allows, fitting, counts};
-ghost use Rattle.transfer.specs.Turns.{is_reading, is_writing, opened_record, turned, grown};
+ghost use Rattle.transfer.specs.Turns.{goes, is_reading, is_writing, opened_record, turned, grown};
 
+use find::row::Row;
 use sdo::Key;
-use table::access;
+use table::access::Access;
 
-#[derive(Clone, Copy)]
+// Three names and no Option of two: a record that goes nowhere is a record too (R6.4), and a match on one name is plainer than on a name in Some.
+#[derive(Clone, Copy, PartialEq, Eq)]
 pub enum Direction {
     Neither,
     Reads,
     Writes,
 }
 
-// Of a read held begins with the value, of a write with the bytes sent; place is the count of bytes given or sent.
+// Held bytes with lengths beside them, and no Vec or slice: R16.5. Of a read held begins with the value, of a write with the bytes sent; place is the count of bytes given or sent.
 #[derive(Clone, Copy)]
 pub struct Transfer {
     pub held: [u8; 64],
@@ -28,73 +29,57 @@ pub struct Transfer {
     pub toggle: bool,
 }
 
-pub fn key_at(row: usize) -> Key
-    requires { row < row_count }
+pub fn key_at(row: Row) -> Key
     ensures { result ≡ key_at row }
 {
     Key {
-        index: find::field::index_of(row),
-        sub: find::field::sub_of(row),
+        index: row.index(),
+        sub: row.sub(),
     }
 }
 
-fn access_allows(d: Direction, access: u8) -> bool
-    ensures { result ≡ allows d access }
+fn access_allows(d: Direction, access: Access) -> bool
+    ensures { result ≡ allows d (access_number access) }
 {
     match d {
         Direction::Neither => false,
-        Direction::Reads => access != access::WO,
-        Direction::Writes => access != access::RO,
+        Direction::Reads => access != Access::WriteOnly,
+        Direction::Writes => access != Access::ReadOnly,
     }
 }
 
-// May a value of a row with this shape have this length?
-fn length_allowed(shape: u16, len: usize) -> bool
-    ensures { result ≡ (leb (smallest_in shape) len && leb len (largest_in shape)) }
+// The row of a record with these, where it fits the table; or it counts as none.
+fn counts(row: usize, d: Direction, len: usize, place: usize) -> Option<Row>
+    ensures { result ≡ cond (fitting row d len place) (Some row) None }
 {
-    if len < find::field::smallest_in(shape) {
-        return false;
+    let row = Row::of(row)?;
+    let lengths = row.smallest()..=row.largest();
+    if access_allows(d, row.access()) && lengths.contains(&len) && place <= len {
+        return Some(row);
     }
-    len <= find::field::largest_in(shape)
+    None
 }
 
-// Does a record with these fit the table, or does it count as none?
-fn counts(row: usize, d: Direction, len: usize, place: usize) -> bool
-    ensures { result ≡ fitting row d len place }
+// The row of a transfer that counts and goes in this direction.
+fn going(t: Transfer, d: Direction) -> Option<Row>
+    ensures { result ≡ cond (goes d t.direction && counts t) (Some t.row) None }
 {
-    if find::ROWS <= row {
-        return false;
+    if t.direction == d {
+        return counts(t.row, d, t.len, t.place);
     }
-    let shape = find::field::shape_of(row);
-    if access_allows(d, find::field::access_in(shape)) {
-        if length_allowed(shape, len) {
-            return place <= len;
-        }
-        return false;
-    }
-    false
+    None
 }
 
-pub fn reading(t: Transfer) -> bool
-    ensures { result ≡ (is_reading t.direction && counts t) }
+pub fn reading(t: Transfer) -> Option<Row>
+    ensures { result ≡ cond (is_reading t.direction && counts t) (Some t.row) None }
 {
-    let d = t.direction;
-    match d {
-        Direction::Neither => false,
-        Direction::Reads => counts(t.row, d, t.len, t.place),
-        Direction::Writes => false,
-    }
+    going(t, Direction::Reads)
 }
 
-pub fn writing(t: Transfer) -> bool
-    ensures { result ≡ (is_writing t.direction && counts t) }
+pub fn writing(t: Transfer) -> Option<Row>
+    ensures { result ≡ cond (is_writing t.direction && counts t) (Some t.row) None }
 {
-    let d = t.direction;
-    match d {
-        Direction::Neither => false,
-        Direction::Reads => false,
-        Direction::Writes => counts(t.row, d, t.len, t.place),
-    }
+    going(t, Direction::Writes)
 }
 
 // An opening starts with the bytes that it carries itself, and toggle 0.
@@ -122,38 +107,26 @@ pub fn turned(t: Transfer, size: usize) -> Transfer
     requires { (t.place ≤ 64) × (size ≤ 256) }
     ensures { result ≡ turned t size }
 {
-    let held = t.held;
-    let row = t.row;
-    let len = t.len;
-    let place = t.place;
-    let toggle = t.toggle;
     Transfer {
-        held,
-        row,
         direction: Direction::Reads,
-        len,
-        place: place + size,
-        toggle: !toggle,
+        place: t.place + size,
+        toggle: !t.toggle,
+        ..t
     }
 }
 
-// With the part of a write that is count bytes of m, from a byte on.
-pub fn grown(t: Transfer, m: &[u8], from: usize, count: usize) -> Transfer
-    requires { (from + count ≤ length m.now) × ((t.len ≤ 64) × (t.place + count ≤ t.len)) }
-    ensures { result ≡ grown t (take count (drop from m.now)) }
+// With a part of a write.
+pub fn grown(t: Transfer, part: &[u8]) -> Transfer
+    requires { (t.len ≤ 64) × (t.place + length part.now ≤ t.len) }
+    ensures { result ≡ grown t part.now }
 {
     let mut held = t.held;
-    let row = t.row;
-    let len = t.len;
-    let place = t.place;
-    let toggle = t.toggle;
-    wire::copy_at(&mut held, place, m, from, count);
+    wire::copy_at(&mut held, t.place, part);
     Transfer {
         held,
-        row,
         direction: Direction::Writes,
-        len,
-        place: place + count,
-        toggle: !toggle,
+        place: t.place + part.len(),
+        toggle: !t.toggle,
+        ..t
     }
 }

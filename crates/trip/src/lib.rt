@@ -1,7 +1,7 @@
 // Trip sides and points by value: how a sample turns them on and off.
 #![tactic(auto)]
 
-ghost use Rattle.std.specs.Prelude.{◌≡◌};
+ghost use Rattle.std.specs.Prelude.{◌≡◌, Some, None, cond};
 ghost use Rattle.trip.specs.Trip.{side_settled, low_next, high_next, point_next, all_off, usable_pressure};
 
 #[derive(Clone, Copy)]
@@ -46,6 +46,7 @@ fn settle(enabled: bool, on: bool, off: bool, was: bool) -> bool
     was
 }
 
+// The two sides differ in the sense of each comparison and in the sign of the hysteresis; given as closures these are longer than the two lines.
 pub fn low_next(side: Side, was: bool, p: f32) -> bool
     ensures { result ≡ low_next side was p }
 {
@@ -80,15 +81,19 @@ pub fn all_off() -> Trips
     Trips { one: off, two: off }
 }
 
-// A sample counts as valid: its flag is not 0, and the pressure is not negative and is finite. An infinity less itself is NaN.
-pub fn usable(p: f32, valid: u8) -> bool
-    ensures { result ≡ usable_pressure p valid }
+// The pressure of a sample that counts as valid: its flag is not 0, and the pressure is not negative and is finite. An infinity less itself
+// is NaN.
+pub fn usable(p: f32, valid: u8) -> Option<f32>
+    ensures { result ≡ cond (usable_pressure p valid) (Some p) None }
 {
     if valid == 0 {
-        return false;
+        return None;
     }
     if p < 0.0 {
-        return false;
+        return None;
     }
-    p - p == 0.0
+    if p - p == 0.0 {
+        return Some(p);
+    }
+    None
 }

@@ -2,10 +2,11 @@
 use crate::blocks::default_block;
 use crate::report::say;
 use std::io;
+use table::{Block, Values};
 
 // Over temperature and filament 1 are active, 0401, under a mask with these two low bytes. The summary byte was lent, and is neither of those
 // that are worked out.
-fn with_faults(low: u8, high: u8) -> [u8; 1024] {
+fn with_faults(low: u8, high: u8) -> Values {
     let mut values = [0u8; 1024];
     values[354] = 0x55;
     values[363] = 0x01;
@@ -22,22 +23,22 @@ fn shown(low: u8, high: u8) -> u8 {
 }
 
 pub fn hidden(rt: &impl Print) -> io::Result<()> {
-    say(rt, b"mask: nothing is hidden", shown(0x00, 0x00) == 4)?;
+    say(rt, "mask: nothing is hidden", shown(0x00, 0x00) == 4)?;
     say(
         rt,
-        b"mask: one fault of two is hidden",
+        "mask: one fault of two is hidden",
         shown(0x00, 0x04) == 4,
     )?;
     say(
         rt,
-        b"mask: all but a fault is hidden",
+        "mask: all but a fault is hidden",
         shown(0xFF, 0xFB) == 4,
     )?;
-    say(rt, b"mask: both faults are hidden", shown(0x01, 0x04) == 0)
+    say(rt, "mask: both faults are hidden", shown(0x01, 0x04) == 0)
 }
 
 // F3A3:01 is 0401 in the block, from bit 950 on: bit 971, 10 in byte 121, and bit 981, 04 in byte 122.
-fn masked_block() -> [u8; 512] {
+fn masked_block() -> Block {
     let mut block = default_block();
     block[121] = 0x10;
     block[122] = 0x04;
@@ -50,14 +51,14 @@ pub fn loaded(rt: &impl Print) -> io::Result<()> {
     let masked = (values[428] == 0x01) & (values[429] == 0x04);
     say(
         rt,
-        b"load: a mask of the block acts at once",
+        "load: a mask of the block acts at once",
         taken & masked & (values[354] == 0),
     )?;
     let mut others = with_faults(0x00, 0x00);
     let refused = !gauge::power::take_block(&mut others, &[0u8; 512]);
     say(
         rt,
-        b"load: a faulty block leaves the summary",
+        "load: a faulty block leaves the summary",
         refused & (others[354] == 0x55),
     )
 }

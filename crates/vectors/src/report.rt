@@ -2,15 +2,11 @@
 ghost use Rattle.std.specs.Prelude.{◌≡◌, ◌+◌, ◌≤◌, ◌↔◌, IsTrue, length};
 
 use std::io;
+use table::Values;
 
-pub fn say(rt: &impl Print, name: &[u8], right: bool) -> io::Result<()> {
-    if right {
-        rt.write_all(b"ok ")?;
-    } else {
-        rt.write_all(b"DIFFERS ")?;
-    }
-    rt.write_all(name)?;
-    rt.write_all(b"\n")
+pub fn say(rt: &impl Print, name: &str, right: bool) -> io::Result<()> {
+    let word = if right { "ok" } else { "DIFFERS" };
+    println!(rt; "{word} {name}")
 }
 
 // Do both hold the same bytes?
@@ -22,9 +18,9 @@ pub fn same(a: &[u8], b: &[u8]) -> bool
 
 pub fn compare_values(
     rt: &impl Print,
-    name: &[u8],
-    got: &[u8; 1024],
-    expected: &[u8; 1024],
+    name: &str,
+    got: &Values,
+    expected: &Values,
 ) -> io::Result<()> {
     say(rt, name, same(got, expected))
 }
@@ -34,32 +30,17 @@ pub fn put(bytes: &mut [u8], at: usize, count: usize, run: u64)
     requires { at + count ≤ length bytes.old }
 {
     let mut left = run;
-    let mut i = count;
-    while 0 < i {
-        i -= 1;
-        bytes[at + i] = (left % 256) as u8;
+    for byte in bytes[at..at + count].iter_mut().rev() {
+        *byte = (left % 256) as u8;
         left = left / 256;
     }
 }
 
-// Where there is room for four bytes.
-fn put_four(bytes: &mut [u8], at: usize, four: u64) {
-    if bytes.len() < 4 {
-        return;
-    }
-    if bytes.len() - 4 < at {
-        return;
-    }
-    put(bytes, at, 4, four);
-}
-
-// Four bytes from each place on: one list lent is cheaper to check than a statement for each byte.
-pub fn put_fours(bytes: &mut [u8], places: &[usize], fours: &[u64])
-    requires { length places.now ≡ length fours.now }
-{
-    let mut i = 0;
-    while i < places.len() {
-        put_four(bytes, places[i], fours[i]);
-        i += 1;
+// Four bytes from each place on, where there is room for them: one list lent is cheaper to check than a statement for each.
+pub fn put_fours(bytes: &mut [u8], places: &[usize], fours: &[u32]) {
+    for (place, four) in places.iter().zip(fours) {
+        if let Some(room) = bytes.get_mut(*place..place.saturating_add(4)) {
+            room.copy_from_slice(&four.to_be_bytes());
+        }
     }
 }

@@ -5,8 +5,9 @@ ghost use Rattle.std.specs.Prelude.{◌+◌, ◌≤◌};
 use crate::blocks::default_block;
 use crate::report::{compare_values, put_fours, same, say};
 use std::io;
+use table::{Block, Values};
 
-fn default_values() -> [u8; 1024] {
+fn default_values() -> Values {
     let mut values = [0u8; 1024];
     entry::put_defaults(&mut values);
     values
@@ -15,12 +16,7 @@ fn default_values() -> [u8; 1024] {
 // ---- storing
 
 // A store that is taken writes these 512 bytes.
-fn stores(
-    rt: &impl Print,
-    name: &[u8],
-    values: &[u8; 1024],
-    expected: &[u8; 512],
-) -> io::Result<()> {
+fn stores(rt: &impl Print, name: &str, values: &Values, expected: &Block) -> io::Result<()> {
     let mut block = [0xA5u8; 512];
     let taken = store::store(values, &mut block);
     say(rt, name, taken & same(&block, expected))
@@ -28,7 +24,7 @@ fn stores(
 
 // Label 41 42 43, bytes 1 to 3 of the block. 8005:01 on: bit 264. 800E:11 is 1.5, 3FC00000, from the middle of byte 38 on.
 // F9F7 is 80000001: bit 1182, 02 in byte 147, and bit 1213, 04 in byte 151.
-fn some_values() -> [u8; 1024] {
+fn some_values() -> Values {
     let mut values = default_values();
     put_fours(
         &mut values,
@@ -38,7 +34,7 @@ fn some_values() -> [u8; 1024] {
     values
 }
 
-fn some_block() -> [u8; 512] {
+fn some_block() -> Block {
     let mut block = default_block();
     put_fours(
         &mut block,
@@ -49,7 +45,7 @@ fn some_block() -> [u8; 512] {
 }
 
 // Entries without NV mark do not come into the block.
-fn other_values() -> [u8; 1024] {
+fn other_values() -> Values {
     let mut values = default_values();
     values[236] = 0x01;
     values[354] = 0x04;
@@ -58,13 +54,13 @@ fn other_values() -> [u8; 1024] {
 }
 
 // Both sides of trip point 1 at 258, and 800E:11 at 260 is 1500, 44BB8000; in the block from byte 38 on.
-fn straight_values() -> [u8; 1024] {
+fn straight_values() -> Values {
     let mut values = default_values();
     put_fours(&mut values, &[258, 260], &[0x01010000, 0x0080BB44]);
     values
 }
 
-fn straight_block() -> [u8; 512] {
+fn straight_block() -> Block {
     let mut block = default_block();
     put_fours(&mut block, &[38], &[0x344BB800]);
     block
@@ -73,7 +69,7 @@ fn straight_block() -> [u8; 512] {
 fn stores_some(rt: &impl Print) -> io::Result<()> {
     stores(
         rt,
-        b"store: label, BOOL, REAL and a last entry",
+        "store: label, BOOL, REAL and a last entry",
         &some_values(),
         &some_block(),
     )
@@ -82,7 +78,7 @@ fn stores_some(rt: &impl Print) -> io::Result<()> {
 fn stores_others(rt: &impl Print) -> io::Result<()> {
     stores(
         rt,
-        b"store: lock, summary and spare bytes stay out",
+        "store: lock, summary and spare bytes stay out",
         &other_values(),
         &default_block(),
     )
@@ -91,7 +87,7 @@ fn stores_others(rt: &impl Print) -> io::Result<()> {
 fn stores_straight(rt: &impl Print) -> io::Result<()> {
     stores(
         rt,
-        b"store: both sides on, 0 below 1500",
+        "store: both sides on, 0 below 1500",
         &straight_values(),
         &straight_block(),
     )
@@ -100,7 +96,7 @@ fn stores_straight(rt: &impl Print) -> io::Result<()> {
 pub fn stored(rt: &impl Print) -> io::Result<()> {
     stores(
         rt,
-        b"store: the defaults",
+        "store: the defaults",
         &default_values(),
         &default_block(),
     )?;
@@ -112,14 +108,14 @@ pub fn stored(rt: &impl Print) -> io::Result<()> {
 // ---- refusing
 
 // A lent NV value outside its limits, or a crossed trip point: nothing is written.
-fn refuses(rt: &impl Print, name: &[u8], values: &[u8; 1024]) -> io::Result<()> {
+fn refuses(rt: &impl Print, name: &str, values: &Values) -> io::Result<()> {
     let mut block = [0xA5u8; 512];
     let taken = store::store(values, &mut block);
     say(rt, name, !taken & same(&block, &[0xA5u8; 512]))
 }
 
 // The defaults, with one number of len bytes lent at a place.
-fn refuses_lent(rt: &impl Print, name: &[u8], at: usize, len: usize, v: u64) -> io::Result<()>
+fn refuses_lent(rt: &impl Print, name: &str, at: usize, len: usize, v: u64) -> io::Result<()>
     requires { at + len ≤ 1024 }
 {
     let mut values = default_values();
@@ -129,31 +125,31 @@ fn refuses_lent(rt: &impl Print, name: &[u8], at: usize, len: usize, v: u64) -> 
 
 // At 251 stands 8005:01, at 253 8005:11, at 260 800E:11 (2048 is 45000000).
 fn refused_first(rt: &impl Print) -> io::Result<()> {
-    refuses(rt, b"store: all zero, so 8005:11 is 0", &[0u8; 1024])?;
-    refuses_lent(rt, b"store: BOOL 2 lent", 251, 1, 0x02)?;
-    refuses_lent(rt, b"store: USINT above", 253, 1, 0x03)?;
-    refuses_lent(rt, b"store: REAL above", 260, 4, 0x45000000)
+    refuses(rt, "store: all zero, so 8005:11 is 0", &[0u8; 1024])?;
+    refuses_lent(rt, "store: BOOL 2 lent", 251, 1, 0x02)?;
+    refuses_lent(rt, "store: USINT above", 253, 1, 0x03)?;
+    refuses_lent(rt, "store: REAL above", 260, 4, 0x45000000)
 }
 
 // At 264 stands 800E:12, at 460 F840:01, at 464 F840:03, at 254 8005:13.
 fn refused_last(rt: &impl Print) -> io::Result<()> {
-    refuses_lent(rt, b"store: source index other", 264, 4, 0x800E1101)?;
-    refuses_lent(rt, b"store: UDINT below", 460, 4, 0x00210000)?;
-    refuses_lent(rt, b"store: last NV number with limits", 464, 1, 0x06)?;
-    refuses_lent(rt, b"store: REAL not a number", 254, 4, 0x7FC00000)
+    refuses_lent(rt, "store: source index other", 264, 4, 0x800E1101)?;
+    refuses_lent(rt, "store: UDINT below", 460, 4, 0x00210000)?;
+    refuses_lent(rt, "store: last NV number with limits", 464, 1, 0x06)?;
+    refuses_lent(rt, "store: REAL not a number", 254, 4, 0x7FC00000)
 }
 
 // Both sides of trip point 1 at 258, of trip point 2 at 296, where all levels are 0. At 272 stands 800E:14: 1.5 is 3FC00000.
-fn crossed_values() -> [u8; 1024] {
+fn crossed_values() -> Values {
     let mut values = straight_values();
     put_fours(&mut values, &[260, 272], &[0x0000803F, 0x0000C03F]);
     values
 }
 
 fn refused_crossed(rt: &impl Print) -> io::Result<()> {
-    refuses_lent(rt, b"store: both sides on, both levels 0", 258, 2, 0x0101)?;
-    refuses_lent(rt, b"store: the same of the second point", 296, 2, 0x0101)?;
-    refuses(rt, b"store: both sides on, 1.5 over 1", &crossed_values())
+    refuses_lent(rt, "store: both sides on, both levels 0", 258, 2, 0x0101)?;
+    refuses_lent(rt, "store: the same of the second point", 296, 2, 0x0101)?;
+    refuses(rt, "store: both sides on, 1.5 over 1", &crossed_values())
 }
 
 pub fn refused(rt: &impl Print) -> io::Result<()> {
@@ -165,7 +161,7 @@ pub fn refused(rt: &impl Print) -> io::Result<()> {
 // ---- there and back
 
 // The NV entries whose defaults are not zero: 8005:11, the source indices, the unit and its code.
-fn nv_defaults() -> [u8; 1024] {
+fn nv_defaults() -> Values {
     let mut values = [0u8; 1024];
     put_fours(
         &mut values,
@@ -184,7 +180,7 @@ fn loads_defaults(rt: &impl Print) -> io::Result<()> {
     let taken = load::load(&default_block(), &mut values);
     say(
         rt,
-        b"load: the defaults into zeros",
+        "load: the defaults into zeros",
         taken & same(&values, &nv_defaults()),
     )
 }
@@ -198,7 +194,7 @@ fn comes_back(rt: &impl Print) -> io::Result<()> {
     let loaded = load::load(&block, &mut fresh);
     say(
         rt,
-        b"load: what was stored comes back",
+        "load: what was stored comes back",
         stored & loaded & same(&fresh, &values),
     )
 }
@@ -209,7 +205,7 @@ fn others_stay(rt: &impl Print) -> io::Result<()> {
     load::load(&default_block(), &mut values);
     compare_values(
         rt,
-        b"load alone: lock, summary and spare bytes stay",
+        "load alone: lock, summary and spare bytes stay",
         &values,
         &other_values(),
     )
@@ -223,7 +219,7 @@ fn same_block(rt: &impl Print) -> io::Result<()> {
     let stored = store::store(&values, &mut block);
     say(
         rt,
-        b"store: what was loaded, bit by bit",
+        "store: what was loaded, bit by bit",
         loaded & stored & same(&block, &some_block()),
     )
 }
@@ -232,7 +228,7 @@ fn same_block(rt: &impl Print) -> io::Result<()> {
 fn powers_up(rt: &impl Print) -> io::Result<()> {
     let mut values = [0x5Au8; 1024];
     gauge::power::fill(&mut values, &some_block());
-    compare_values(rt, b"power-up: what the block has", &values, &some_values())
+    compare_values(rt, "power-up: what the block has", &values, &some_values())
 }
 
 pub fn back(rt: &impl Print) -> io::Result<()> {

@@ -7,9 +7,10 @@ use Prim.Native.Nat.{ℕ, suc, ◌+◌, ◌-◌, ◌≤◌, ◌<◌}
 use native.Mathlib.Nat.{add-zero}
 use native.Mathlib.Omega.{arith}
 use lib.Dec.{leb}
-use lib.ListN.{length, take, drop, set, length-append, length-take, length-drop, take-append-drop}
+use lib.ListN.{length, take, drop, set, replicate, length-replicate, length-append, length-take, length-drop, take-append-drop}
 use lib.Seq.{take_at, drop_at, length-take-le, drop-drop, take-add, drop-append-le, take-append-le, drop-length, take-suc-set, drop-set-lt}
 use borrow.Author.Tests.{leb-true, le-leb}
+use borrow.Rule.Slice.PartMut.{put_mid}
 use Rattle.wire.specs.Splice.{splice, apart}
 
 pub length-splice : (l : List ℕ) (at : ℕ) (vs : List ℕ) → at + length vs ≤ length l → length (splice l at vs) ≡ length l
@@ -59,6 +60,21 @@ part_length l at n h = simp (length-take, length-drop) (omega arith)
 pub splice-own : (l : List ℕ) (at n : ℕ) → at + n ≤ length l → splice l at (take n (drop at l)) ≡ l
 unfolding splice
 splice-own l at n h = rw (part_length l at n h) (sym (parts l at n))
+
+-- a part that was lent, written over and given back: k is where it ends
+pub splice-lent : (l : List ℕ) (at k : ℕ) (vs : List ℕ) → k ≡ at + length vs → put_mid at (k - at) l vs ≡ splice l at vs
+unfolding splice
+splice-lent l at k vs e =
+    let n : k - at ≡ length vs = omega arith in
+    rw (n, drop-drop (length vs) at l)
+
+-- the same for a part that was made zero
+pub zeros-lent : (l : List ℕ) (at k : ℕ) {zeros : List ℕ} → at ≤ k → k ≤ length l → zeros ≡ replicate (length (take (k - at) (drop at l))) 0
+    → put_mid at (k - at) l zeros ≡ splice l at (replicate (k - at) 0)
+zeros-lent l at k h room e =
+    let n : length (take (k - at) (drop at l)) ≡ k - at = part_length l at (k - at) (omega arith) in
+    let m : length (replicate {A = ℕ} (k - at) 0) ≡ k - at = length-replicate (k - at) 0 in
+    rw (e, n) (splice-lent l at k (replicate (k - at) 0) (omega arith))
 
 -- ---- splices after each other
 

@@ -1,14 +1,17 @@
 -- Bytes stored and read with no loop: one byte, two and four. Assumes nothing.
-use mathlib.Core.Path.{◌≡◌, ◌∙◌}
+use mathlib.Core.Path.{◌≡◌, refl, sym, ◌∙◌}
 use mathlib.Core.List.{List, [], ◌∷◌, append_assoc}
-use Prim.Native.Nat.{ℕ, suc, ◌+◌, ◌*◌, ◌/◌, ◌%◌, ◌<◌, ◌≤◌}
+use Prim.Native.Nat.{ℕ, suc, ◌+◌, ◌-◌, ◌*◌, ◌/◌, ◌%◌, ◌<◌, ◌≤◌}
 use native.Mathlib.Nat.{div-div-eq-div-mul}
 use native.Mathlib.Omega.{arith}
 use lib.ListN.{length, take, drop, get_or, set}
 use lib.Seq.{sets, sets-eq}
+use borrow.Rule.Slice.PartMut.{put_mid}
+use Rattle.std.specs.Int.{w16, w32, to_le_bytes}
 use Rattle.wire.specs.Splice.{splice}
 use Rattle.wire.specs.Little.{little, number}
-use Rattle.wire.proofs.LittleLaws.{Bytes, number_none, number_suc}
+use Rattle.wire.proofs.SpliceLaws.{splice-lent}
+use Rattle.wire.proofs.LittleLaws.{Bytes, length-little, number_none, number_suc}
 
 -- stores one behind the other are a splice
 stores : (l : List ℕ) (at : ℕ) (vs : List ℕ) → at + length vs ≤ length l → sets l at vs ≡ splice l at vs
@@ -25,12 +28,17 @@ pub little_4 : (v : ℕ) → little 4 v ≡ v % 256 ∷ v / 256 % 256 ∷ v / 65
 unfolding little
 little_4 v = rw (div-div-eq-div-mul v 256 256, div-div-eq-div-mul v 65536 256)
 
-pub four_stores : (l : List ℕ) (at v : ℕ) → at + 4 ≤ length l → set (set (set (set l at (v % 256)) (at + 1) (v / 256 % 256)) (at + 2) (v / 65536 % 256)) (at + 3) (v / 16777216 % 256) ≡ splice l at (little 4 v)
-four_stores l at v h =
-    let e1 : at + 1 ≡ suc at = omega arith in
-    let e2 : at + 2 ≡ suc (suc at) = omega arith in
-    let e3 : at + 3 ≡ suc (suc (suc at)) = omega arith in
-    rw (e1, e2, e3, little_4 v) (stores l at (v % 256 ∷ v / 256 % 256 ∷ v / 65536 % 256 ∷ v / 16777216 % 256 ∷ []) h)
+pub bytes-2 : (v : ℕ) → to_le_bytes w16 v ≡ little 2 v
+unfolding little
+bytes-2 v = refl
+
+pub bytes-4 : (v : ℕ) → to_le_bytes w32 v ≡ little 4 v
+bytes-4 v = sym (little_4 v)
+
+-- the bytes of a number, copied to a part that is as long
+pub number-lent : (l : List ℕ) (at n v : ℕ) {vs : List ℕ} → vs ≡ little n v → put_mid at (at + n - at) l vs ≡ splice l at (little n v)
+number-lent l at n v e =
+    rw e (splice-lent l at (at + n) (little n v) (omega (arith, length-little n v)))
 
 pub one_byte : (l : List ℕ) (at : ℕ) → number l at 1 ≡ get_or l at 0
 one_byte l at = number_suc l at 0 ∙ rw number_none (omega arith)

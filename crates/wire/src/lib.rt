@@ -1,75 +1,83 @@
 // Bytes on the wire: numbers, flags, REAL values and copied parts in lent bytes.
 #![tactic(auto)]
 
-pub mod wide;
-
-ghost use Rattle.std.specs.Prelude.{false, ◌≡◌, ◌+◌, ◌≤◌, ◌<◌, length, take, drop, replicate};
+ghost use Rattle.std.specs.Prelude.{false, ℕ, ◌≡◌, ◌+◌, ◌≤◌, ◌<◌, length, take, drop};
 ghost use Rattle.std.specs.Float.{binary32};
 ghost use Rattle.std.specs.Float.Ieee.{of_bits, to_bits, is_nan};
 ghost use Rattle.wire.specs.Splice.{splice};
 ghost use Rattle.wire.specs.Little.{little, number};
 ghost use Rattle.wire.specs.Real.{real};
-ghost use Rattle.wire.specs.Flags.{is_set, bit, flags};
+ghost use Rattle.wire.specs.Flags.{is_set, flags};
 
-// ---- a whole number of any width
+// ---- whole numbers, least byte first
 
+// A number that has a width of its own.
+pub trait Number: Copy {
+    ghost width: { ℕ };
+
+    ghost value: { Self → ℕ };
+
+    fn at(s: &[u8], at: usize) -> Self
+        requires { at + width ≤ length s.now }
+        ensures { value result ≡ number s.now at width };
+
+    fn put(self, s: &mut [u8], at: usize)
+        requires { at + width ≤ length s.old }
+        ensures { s.new ≡ splice s.old at (little width (value self)) };
+}
+
+impl Number for u8 {
+    ghost width = { 1 };
+
+    ghost value = { λ v. v };
+
+    fn at(s: &[u8], at: usize) -> u8 {
+        s[at]
+    }
+
+    fn put(self, s: &mut [u8], at: usize) {
+        s[at] = self;
+    }
+}
+
+impl Number for u16 {
+    ghost width = { 2 };
+
+    ghost value = { λ v. v };
+
+    fn at(s: &[u8], at: usize) -> u16 {
+        u16::from_le_bytes([s[at], s[at + 1]])
+    }
+
+    fn put(self, s: &mut [u8], at: usize) {
+        s[at..at + 2].copy_from_slice(&self.to_le_bytes());
+    }
+}
+
+impl Number for u32 {
+    ghost width = { 4 };
+
+    ghost value = { λ v. v };
+
+    fn at(s: &[u8], at: usize) -> u32 {
+        u32::from_le_bytes([s[at], s[at + 1], s[at + 2], s[at + 3]])
+    }
+
+    fn put(self, s: &mut [u8], at: usize) {
+        s[at..at + 4].copy_from_slice(&self.to_le_bytes());
+    }
+}
+
+// A number of any width.
 pub fn put_number(s: &mut [u8], at: usize, len: usize, v: u64)
     requires { at + len ≤ length s.old }
     ensures { s.new ≡ splice s.old at (little len v) }
 {
     let mut rest = v;
-    let mut i = 0;
-    while i < len {
-        s[at + i] = (rest % 256) as u8;
+    for byte in &mut s[at..at + len] {
+        *byte = (rest % 256) as u8;
         rest /= 256;
-        i += 1;
     }
-}
-
-// ---- the widths of most entries, with no loop
-
-pub fn byte_at(s: &[u8], at: usize) -> u8
-    requires { at + 1 ≤ length s.now }
-    ensures { result ≡ number s.now at 1 }
-{
-    s[at]
-}
-
-pub fn put_byte(s: &mut [u8], at: usize, v: u8)
-    requires { at + 1 ≤ length s.old }
-    ensures { s.new ≡ splice s.old at (little 1 v) }
-{
-    s[at] = v;
-}
-
-pub fn pair_at(s: &[u8], at: usize) -> u16
-    requires { at + 2 ≤ length s.now }
-    ensures { result ≡ number s.now at 2 }
-{
-    let a = wide::to_u16(s[at]);
-    let b = wide::to_u16(s[at + 1]);
-    a + b * 256
-}
-
-pub fn word_at(s: &[u8], at: usize) -> u32
-    requires { at + 4 ≤ length s.now }
-    ensures { result ≡ number s.now at 4 }
-{
-    let a = wide::to_u32(s[at]);
-    let b = wide::to_u32(s[at + 1]);
-    let c = wide::to_u32(s[at + 2]);
-    let d = wide::to_u32(s[at + 3]);
-    a + b * 256 + c * 65536 + d * 16777216
-}
-
-pub fn put_word(s: &mut [u8], at: usize, v: u32)
-    requires { at + 4 ≤ length s.old }
-    ensures { s.new ≡ splice s.old at (little 4 v) }
-{
-    s[at] = (v % 256) as u8;
-    s[at + 1] = (v / 256 % 256) as u8;
-    s[at + 2] = (v / 65536 % 256) as u8;
-    s[at + 3] = (v / 16777216 % 256) as u8;
 }
 
 // ---- flags
@@ -79,56 +87,37 @@ pub fn is_set(s: &[u8], at: usize) -> bool
     requires { at + 1 ≤ length s.now }
     ensures { result ≡ is_set s.now at }
 {
-    byte_at(s, at) != 0
+    u8::at(s, at) != 0
 }
 
-pub fn bit_of(b: bool) -> u8
-    ensures { (result ≡ bit b) × (result < 2) }
-{
-    if b { 1 } else { 0 }
-}
-
-// Four flags, a byte each, stored as one word.
+// Four flags, a byte each.
 pub fn put_flags(s: &mut [u8], at: usize, a: bool, b: bool, c: bool, d: bool)
     requires { at + 4 ≤ length s.old }
     ensures { s.new ≡ splice s.old at (flags a b c d) }
 {
-    let low = wide::to_u32(bit_of(a)) + wide::to_u32(bit_of(b)) * 256;
-    let high = wide::to_u32(bit_of(c)) + wide::to_u32(bit_of(d)) * 256;
-    put_word(s, at, low + high * 65536);
+    let bytes = [u8::from(a), u8::from(b), u8::from(c), u8::from(d)];
+    s[at..at + 4].copy_from_slice(&bytes);
 }
 
 // ---- parts
 
-// n bytes of src, from a place on, to a place of dst.
-pub fn copy_at(dst: &mut [u8], at: usize, src: &[u8], from: usize, n: usize)
-    requires { (at + n ≤ length dst.old) × (from + n ≤ length src.now) }
-    ensures { dst.new ≡ splice dst.old at (take n (drop from src.now)) }
+// Bytes to a place of dst.
+pub fn copy_at(dst: &mut [u8], at: usize, bytes: &[u8])
+    requires { at + length bytes.now ≤ length dst.old }
+    ensures { dst.new ≡ splice dst.old at bytes.now }
 {
-    let mut i = 0;
-    while i < n {
-        dst[at + i] = src[from + i];
-        i += 1;
+    for (i, byte) in bytes.iter().enumerate() {
+        dst[at + i] = *byte;
     }
 }
 
-// Seven bytes, as most parts of a long value have: two words that share one.
+// Seven bytes, as most parts of a long value have: two words that share one. Beside copy_at, since PROMISES names it and the edit seven-shifted is its.
 pub fn copy_seven(dst: &mut [u8], at: usize, src: &[u8], from: usize)
     requires { (at + 7 ≤ length dst.old) × (from + 7 ≤ length src.now) }
     ensures { dst.new ≡ splice dst.old at (take 7 (drop from src.now)) }
 {
-    put_word(dst, at, word_at(src, from));
-    put_word(dst, at + 3, word_at(src, from + 3));
-}
-
-pub fn clear(s: &mut [u8])
-    ensures { s.new ≡ replicate (length s.old) 0 }
-{
-    let mut i = 0;
-    while i < s.len() {
-        s[i] = 0;
-        i += 1;
-    }
+    u32::at(src, from).put(dst, at);
+    u32::at(src, from + 3).put(dst, at + 3);
 }
 
 // ---- REAL values
@@ -147,7 +136,7 @@ pub fn real_at(s: &[u8], at: usize) -> f32
     requires { at + 4 ≤ length s.now }
     ensures { result ≡ real s.now at }
 {
-    real_of(word_at(s, at))
+    real_of(u32::at(s, at))
 }
 
 // The bit pattern of a REAL that is a number; minus zero keeps its own.

@@ -7,12 +7,12 @@ use Rattle.bits.specs.Bits.{bits, msb}
 use Rattle.wire.specs.Splice.{splice}
 use Rattle.bits.proofs.add_field.Goals as goal
 
-pub overflow_add-x : goal.overflow_add-x
-overflow_add-x c =
-    record { fits = sum_fits c.args.s.now c.args.at c.args.width (omega arith) (omega arith) c.window-x.result c.window-x.ensures c.word_to_u64.result (rw c.word_to_u64.ensures.0 c.requires.4) c.requires.5 }
-
 pub returns : goal.returns
 returns c =
     c.spread.ensures
-    ∙ field_added c.args.s.now c.args.at c.args.width (omega arith) (omega arith) c.window-x.result c.window-x.ensures c.word_to_u64.result (rw c.word_to_u64.ensures.0 c.requires.4) c.requires.5
-    ∙ ap (λ (v : ℕ). splice (bits c.args.s.now) c.args.at (msb c.args.width v)) c.word_to_u64.ensures.0
+    ∙ field_added c.args.s.now c.args.at c.args.width (omega arith) (omega arith) c.window-x.result c.window-x.ensures c.from.result (rw c.from.ensures c.requires.4) c.requires.5
+    ∙ ap (λ (v : ℕ). splice (bits c.args.s.now) c.args.at (msb c.args.width v)) c.from.ensures
+
+pub overflow_add-x : goal.overflow_add-x
+overflow_add-x c =
+    record { fits = sum_fits c.args.s.now c.args.at c.args.width (omega arith) (omega arith) c.window-x.result c.window-x.ensures c.from.result (rw c.from.ensures c.requires.4) c.requires.5 }

@@ -1,6 +1,5 @@
 -- `get_bytes` meets its contract: whole bytes are copied, others come from across. Assumes nothing.
-use mathlib.Core.Path.{◌∙◌, ap}
-use native.Mathlib.Omega.{arith}
+use Rattle.std.proofs.Common.{◌∙◌, ap, arith}
 use Rattle.bits.proofs.Copying.{get_whole_bytes}
 use Rattle.wire.specs.Splice.{splice}
 use Rattle.bits.proofs.get_bytes.Goals as goal

@@ -4,4 +4,4 @@ use Rattle.bits.proofs.put_word.Goals as goal
 
 pub returns : goal.returns
 returns c =
-    turned_put c.args.s.now _ c.args.at c.args.v _ c.requires c.ranges.v.fits c.turned.ensures c.put_word.ensures
+    turned_put c.args.s.now _ c.args.at c.args.v _ c.requires c.ranges.v.fits c.swap_bytes.ensures c.put.ensures

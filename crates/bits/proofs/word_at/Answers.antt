@@ -4,4 +4,4 @@ use Rattle.bits.proofs.word_at.Goals as goal
 
 pub returns : goal.returns
 returns c =
-    word_turned c.args.s.now c.args.at c.requires (λ i. (c.type_inv.s i).fits) _ _ c.word_at.ensures c.turned.ensures
+    word_turned c.args.s.now c.args.at c.requires (λ i. (c.type_inv.s i).fits) _ _ c.at.ensures c.swap_bytes.ensures

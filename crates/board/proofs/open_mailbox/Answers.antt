@@ -1,24 +1,20 @@
 -- `board::open_mailbox`: each return is one law, given what the calls ensure. Assumes nothing.
 use mathlib.Core.Path.{sym, ◌∙◌}
-use Rattle.board.proofs.CallLaws.{mail_misshapen, mail_not_sdo, mail_no_room, mail_is_served}
+use Rattle.std.proofs.lemmas.Result.{err_from_is_err_and}
+use Rattle.board.specs.Calls.{number_of}
+use Rattle.board.proofs.CallLaws.{mail_unfit, mail_no_room, mail_is_served}
 use Rattle.board.proofs.open_mailbox.Goals as goal
 
+pub returns-in_err-head : goal.returns-in_err-head
+returns-in_err-head c =
+    let p = err_from_is_err_and c.from_residual.result c.from_residual.ensures.1 in
+    rw (p.1, p.2) (mail_unfit c.args.mailbox.now c.args.values.now c.args.block.now c.args.state.now c.args.answer.now c.in_err-head.field-0.0 (sym c.in_err-head.ensures))
+
 pub returns-then-answer-lt-SIZE : goal.returns-then-answer-lt-SIZE
+unfolding number_of
 returns-then-answer-lt-SIZE c =
-    mail_no_room c.args.mailbox.now c.args.values.now c.args.block.now c.args.state.now c.args.answer.now c.in-Sdo.head (sym c.mail_of-mail.ensures ∙ c.in-Sdo.is) c.if-answer-lt-SIZE.true
+    mail_no_room c.args.mailbox.now c.args.values.now c.args.block.now c.args.state.now c.args.answer.now c.in_ok-head.head (sym c.mail_of.ensures ∙ c.in_ok-head.was) c.if-answer-lt-SIZE.true
 
-pub serve_mailbox-requires : goal.serve_mailbox-requires
-serve_mailbox-requires c =
-    (sym c.mail_of-mail.ensures ∙ c.in-Sdo.is, c.requires, c.if-answer-lt-SIZE.false)
-
-pub returns-in-Misshapen : goal.returns-in-Misshapen
-returns-in-Misshapen c =
-    mail_misshapen c.args.mailbox.now c.args.values.now c.args.block.now c.args.state.now c.args.answer.now (sym c.mail_of-mail.ensures ∙ c.in-Misshapen.is)
-
-pub returns-in-NotSdo : goal.returns-in-NotSdo
-returns-in-NotSdo c =
-    mail_not_sdo c.args.mailbox.now c.args.values.now c.args.block.now c.args.state.now c.args.answer.now (sym c.mail_of-mail.ensures ∙ c.in-NotSdo.is)
-
-pub returns-else-answer-lt-SIZE : goal.returns-else-answer-lt-SIZE
-returns-else-answer-lt-SIZE c =
-    c.serve_mailbox.ensures ∙ mail_is_served c.args.mailbox.now c.args.values.now c.args.block.now c.args.state.now c.args.answer.now c.in-Sdo.head (sym c.mail_of-mail.ensures ∙ c.in-Sdo.is) c.if-answer-lt-SIZE.false
+pub returns : goal.returns
+returns c =
+    c.serve_mailbox.ensures ∙ mail_is_served c.args.mailbox.now c.args.values.now c.args.block.now c.args.state.now c.args.answer.now c.in_ok-head.head (sym c.mail_of.ensures ∙ c.in_ok-head.was) c.if-answer-lt-SIZE.false

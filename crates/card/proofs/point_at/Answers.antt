@@ -4,4 +4,4 @@ use Rattle.card.proofs.point_at.Goals as goal
 
 pub returns : goal.returns
 returns c =
-    fields_are c.args.values.now c.args.from c.enable_at.ensures c.enable_at-2.ensures c.word_at.ensures c.word_at-2.ensures c.word_at-3.ensures c.word_at-4.ensures
+    fields_are c.args.values.now c.args.from c.enable_at.ensures c.enable_at-2.ensures c.at.ensures c.at-2.ensures c.at-3.ensures c.at-4.ensures

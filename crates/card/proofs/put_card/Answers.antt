@@ -16,7 +16,7 @@ enables-requires-2 c =
 
 pub returns : goal.returns
 returns c =
-    card_made c.args.values.now c.args.card.now _ _ _ _ _ _ (λ k. (c.type_inv.values k).fits) (λ k. search rules) (λ k. (c.type_inv.card k).fits)
+    card_made c.args.values.now c.args.card.now _ _ _ _ _ _ c.fits-values (search rules) (λ k. (c.type_inv.card k).fits)
     (c.put_words.auto.card ∙ c.put_first.auto.card)
     c.requires.0
     c.point_at-one.ensures

@@ -1,6 +1,5 @@
 -- `is_at`: its four numbers.
 use mathlib.Core.Path.{◌∙◌}
-use borrow.Author.Rules.{rules}
 use Rattle.limits.specs.Limits.{number_len}
 use Rattle.crossed.proofs.CrossedLaws.{numbers_are}
 use Rattle.crossed.proofs.is_at.Goals as goal
@@ -9,19 +8,3 @@ pub returns : goal.returns
 unfolding number_len
 returns c =
     c.by_numbers.ensures ∙ numbers_are c.args.values.now c.args.at c.number_by.ensures c.number_by-2.ensures c.number_by-3.ensures c.number_by-4.ensures
-
-pub number_by-requires : goal.number_by-requires
-unfolding number_len
-number_by-requires c = search rules
-
-pub number_by-requires-2 : goal.number_by-requires-2
-unfolding number_len
-number_by-requires-2 c = search rules
-
-pub number_by-requires-3 : goal.number_by-requires-3
-unfolding number_len
-number_by-requires-3 c = search rules
-
-pub number_by-requires-4 : goal.number_by-requires-4
-unfolding number_len
-number_by-requires-4 c = search rules

@@ -7,12 +7,12 @@ use Rattle.crossed.proofs.number_after.Goals as goal
 
 pub number_by-requires : goal.number_by-requires
 number_by-requires c =
-    omega (arith, own_room c.args.values.now c.args.bytes.now c.args.at (number_len c.args.kind) c.args.place c.requires.1 c.requires.2 c.if-at-place.true)
+    omega (arith, own_room c.args.values.now c.args.bytes.now c.args.at (number_len c.args.kind) c.args.place (omega arith) c.requires.2 c.if-at-place.true)
 
 pub returns-then-at-place : goal.returns-then-at-place
 returns-then-at-place c =
-    c.number_by.ensures ∙ number-own c.args.values.now c.args.bytes.now c.args.at (number_len c.args.kind) c.args.place c.requires.1 c.requires.2 c.if-at-place.true
+    c.number_by.ensures ∙ number-own c.args.values.now c.args.bytes.now c.args.at (number_len c.args.kind) c.args.place (omega arith) c.requires.2 c.if-at-place.true
 
 pub returns : goal.returns
 returns c =
-    c.number_by-2.ensures ∙ number_else c.args.values.now c.args.bytes.now c.args.at (number_len c.args.kind) c.args.place c.requires.1 c.requires.2 c.if-at-place.false
+    c.number_by-2.ensures ∙ number_else c.args.values.now c.args.bytes.now c.args.at (number_len c.args.kind) c.args.place (omega arith) c.requires.2 c.if-at-place.false

@@ -4,4 +4,4 @@ use Rattle.enter.proofs.write_point.Goals as goal
 
 pub returns : goal.returns
 returns c =
-    point_written c.args.values.now _ _ _ _ _ _ c.args.fields c.args.to c.put_byte.ensures c.put_byte-2.ensures c.put_word.ensures c.put_word-2.ensures c.put_word-3.ensures c.put_word-4.ensures
+    point_written c.args.values.now _ _ _ _ _ _ c.args.fields c.args.to c.put.ensures c.put-2.ensures c.put-3.ensures c.put-4.ensures c.put-5.ensures c.put-6.ensures

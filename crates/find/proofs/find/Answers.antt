@@ -4,6 +4,3 @@ use Rattle.find.proofs.find.Goals as goal
 
 pub returns-then-is_empty : goal.returns-then-is_empty
 returns-then-is_empty c = empty-area c.args.index c.args.sub c.is_empty.ensures c.if-is_empty.true
-
-pub returns : goal.returns
-returns c = c.find_counted-search.ensures.gate

@@ -1,15 +1,18 @@
 -- `gate::way`: each return is one law, given what the calls ensure. Assumes nothing.
+use mathlib.Core.Path.{sym}
+use Rattle.std.proofs.lemmas.Result.{err_from_is_err_and}
 use Rattle.gate.proofs.GateLaws.{barred_row, allowed-row, stays_shut}
 use Rattle.gate.proofs.way.Goals as goal
 
-pub returns-then-access_in-barred : goal.returns-then-access_in-barred
-returns-then-access_in-barred c =
-    barred_row c.args.barred c.args.code c.args.index c.args.sub c.find-found.ensures c.in-Open.row c.in-Open.shape c.access_in.result c.in-Open.is c.access_in.ensures c.if-access_in-barred.true
+pub returns-in_err-row : goal.returns-in_err-row
+returns-in_err-row c =
+    let p = err_from_is_err_and c.from_residual.result c.from_residual.ensures.1 in
+    rw (p.1, p.2) (stays_shut c.args.barred c.args.abort c.args.index c.args.sub c.find.ensures _ c.in_err-row.was)
 
-pub returns-else-access_in-barred : goal.returns-else-access_in-barred
-returns-else-access_in-barred c =
-    allowed-row c.args.barred c.args.code c.args.index c.args.sub c.find-found.ensures c.in-Open.row c.in-Open.shape c.access_in.result c.in-Open.is c.access_in.ensures c.if-access_in-barred.false
+pub returns-then-eq : goal.returns-then-eq
+returns-then-eq c =
+    barred_row c.args.barred c.args.abort c.args.index c.args.sub c.find.ensures c.in_ok-row.row c.access.result c.in_ok-row.was c.access.ensures (sym c.if-eq.ensures)
 
-pub returns-in-Shut : goal.returns-in-Shut
-returns-in-Shut c =
-    stays_shut c.args.barred c.args.code c.args.index c.args.sub c.find-found.ensures _ c.in-Shut.is
+pub returns : goal.returns
+returns c =
+    allowed-row c.args.barred c.args.abort c.args.index c.args.sub c.find.ensures c.in_ok-row.row c.access.result c.in_ok-row.was c.access.ensures (sym c.if-eq.ensures)

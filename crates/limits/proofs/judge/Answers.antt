@@ -5,20 +5,16 @@ use Rattle.table.specs.Rows.{at_row}
 use Rattle.table.proofs.Table.{row_rule}
 use Rattle.limits.proofs.RowVerdicts.{number-there, bytes_verdict, all-within}
 use Rattle.limits.proofs.judge.Goals as goal
-use Rattle.limits.proofs.judge.Goals.{in-5-1, in_default+then-kind-lt4}
 
 pub number_by-requires : goal.number_by-requires
 number_by-requires c =
-    elim c.in-0-to-3-1.branch [ in-5-1 w ↦ number-there (at_row c.args.row) (row_rule c.args.row c.requires.0) c.args.value.now c.requires.2 c.requires.1 (omega arith) (λ e. omega arith) | in_default+then-kind-lt4 w ↦ number-there (at_row c.args.row) (row_rule c.args.row c.requires.0) c.args.value.now c.requires.2 c.requires.1 (omega arith) (λ e. omega arith) ]
-
-pub judge_kind-requires : goal.judge_kind-requires
-judge_kind-requires c =
-    elim c.in-0-to-3-1.branch [ in-5-1 w ↦ (c.requires.0, c.requires.1, λ e. omega arith) | in_default+then-kind-lt4 w ↦ (c.requires.0, c.requires.1, λ e. omega arith) ]
+    number-there (at_row c.args.row) (row_rule c.args.row c.kind-kind.ensures.row) c.args.value.now c.requires c.kind-kind.ensures.kind (omega arith) (λ e. omega arith)
 
 pub returns-in_default : goal.returns-in_default
 returns-in_default c =
-    all-within (at_row c.args.row) (row_rule c.args.row c.requires.0) c.args.value.now c.requires.2 c.requires.1 (λ k. (c.type_inv.value k).fits) (omega arith) (omega arith)
+    all-within (at_row c.args.row) (row_rule c.args.row c.kind-kind.ensures.row) c.args.value.now c.requires c.kind-kind.ensures.kind (λ k. (c.type_inv.value k).fits) (omega arith) (omega arith)
 
 pub returns-in-0-to-3 : goal.returns-in-0-to-3
 returns-in-0-to-3 c =
-    elim c.in-0-to-3-1.branch [ in-5-1 w ↦ c.judge_kind.ensures ∙ bytes_verdict (at_row c.args.row) (row_rule c.args.row c.requires.0) c.args.value.now c.requires.2 c.requires.1 (omega arith) (λ e. omega arith) c.number_by.ensures | in_default+then-kind-lt4 w ↦ c.judge_kind.ensures ∙ bytes_verdict (at_row c.args.row) (row_rule c.args.row c.requires.0) c.args.value.now c.requires.2 c.requires.1 (omega arith) (λ e. omega arith) c.number_by.ensures ]
+    c.judge_kind.ensures
+    ∙ bytes_verdict (at_row c.args.row) (row_rule c.args.row c.kind-kind.ensures.row) c.args.value.now c.requires c.kind-kind.ensures.kind (omega arith) (λ e. omega arith) c.number_by.ensures

@@ -1,12 +1,11 @@
--- `load` meets its contract: a block with another head is not looked into. Assumes nothing.
-use mathlib.Core.Path.{sym, ◌∙◌}
-use Rattle.block.proofs.Whole.{head_bad}
+-- `load` meets its contract: nothing of a faulty block, all of any other. Assumes nothing.
+use Rattle.block.proofs.Whole.{load_refused, load_done}
 use Rattle.load.proofs.load.Goals as goal
 
-pub returns-then-not-is_headed : goal.returns-then-not-is_headed
-returns-then-not-is_headed c =
-    head_bad c.args.block.now c.args.values.now c.is_headed.ensures c.if-not-is_headed.true
+pub returns-then-not-take_numbers : goal.returns-then-not-take_numbers
+returns-then-not-take_numbers c =
+    load_refused c.args.block.now c.args.values.now c.take_numbers.ensures.taken c.if-not-take_numbers.true
 
-pub load_headed-requires : goal.load_headed-requires
-load_headed-requires c =
-    (c.requires.0, (c.requires.1, sym c.is_headed.ensures ∙ c.if-not-is_headed.false))
+pub returns : goal.returns
+returns c =
+    load_done c.args.block.now c.args.values.now c.take_numbers.ensures.taken c.if-not-take_numbers.false c.take_entries.ensures

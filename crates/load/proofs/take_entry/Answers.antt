@@ -14,7 +14,7 @@ get_bytes-requires c =
 
 pub put_number-requires : goal.put_number-requires
 put_number-requires c =
-    (omega (arith, number-inside c.args.kind c.args.width c.requires.1 c.requires.0 (omega arith)), number_fits c.args.kind c.args.width c.requires.1 c.requires.0 c.args.block.now c.args.at (omega arith) (c.requires.5 (omega arith)))
+    (omega (arith, number-inside c.args.kind c.args.width c.requires.1 c.requires.0 (omega arith)), number_fits c.args.kind c.args.width c.requires.1 c.requires.0 c.args.block.now c.args.at (omega arith) (c.requires.3 (omega arith)))
 
 pub returns-then-kind-gt-REAL : goal.returns-then-kind-gt-REAL
 returns-then-kind-gt-REAL c =
@@ -22,4 +22,4 @@ returns-then-kind-gt-REAL c =
 
 pub returns-else-kind-gt-REAL : goal.returns-else-kind-gt-REAL
 returns-else-kind-gt-REAL c =
-    c.put_number.ensures ∙ ap (splice c.args.values.now c.args.place) (taken-number c.args.kind c.args.width c.requires.1 (bits c.args.block.now) c.args.at (omega arith) (c.requires.5 (omega arith)))
+    c.put_number.ensures ∙ ap (splice c.args.values.now c.args.place) (taken-number c.args.kind c.args.width c.requires.1 (bits c.args.block.now) c.args.at (omega arith) (c.requires.3 (omega arith)))

@@ -4,4 +4,4 @@ use Rattle.mailbox.proofs.sdo_of.Goals as goal
 
 pub returns : goal.returns
 returns c =
-    sdo_lent c.args.mailbox.now c.args.len c.requires.0 c.requires.1 c.requires.2 c.pair_to_usize-end.ensures.0
+    sdo_lent c.args.mailbox.now c.args.len c.requires.0 c.requires.1 c.requires.2 c.from-end.ensures

@@ -2,21 +2,16 @@
 use mathlib.Core.Path.{◌≡◌, refl}
 use native.Mathlib.Omega.{arith}
 use lib.ListN.{length}
-use Rattle.outbox.proofs.Reading.{box_few, box_many}
 use borrow.Author.Rules.{rules}
+use Rattle.outbox.proofs.Reading.{box_few, box_many}
 use Rattle.outbox.proofs.give_part.Goals as goal
 
 pub returns-then-left-le-PART : goal.returns-then-left-le-PART
 returns-then-left-le-PART c =
     let h : length c.args.t.held ≡ 64 = search rules in
-    box_few c.args.at c.args.state.now c.args.room.now c.args.t h c.requires.2 c.requires.3 (omega (arith, c.if-left-le-PART.true, c.requires.3)) c.part_last.ensures c.ended.ensures
-
-pub copy_at-requires : goal.copy_at-requires
-copy_at-requires c =
-    let h : length c.args.t.held ≡ 64 = search rules in
-    (omega (arith, c.requires.1, c.requires.2, c.put_byte.auto.s), omega (arith, h, c.requires.2, c.requires.3))
+    box_few c.args.at c.args.state.now c.args.room.now c.args.t h c.requires.2 c.requires.3 (omega arith) c.part_last-eight.ensures c.ended.ensures
 
 pub returns : goal.returns
 returns c =
     let h : length c.args.t.held ≡ 64 = search rules in
-    box_many c.args.at c.args.state.now c.args.room.now c.args.t h c.requires.2 c.requires.3 refl (omega (arith, c.if-left-le-PART.false)) c.last_head.ensures c.requires.1 c.clear_record.ensures c.put_byte.ensures c.copy_at.ensures refl
+    box_many c.args.at c.args.state.now c.args.room.now c.args.t h c.requires.2 c.requires.3 refl (omega arith) (omega (arith, c.last_head.ensures)) c.requires.1 c.clear_record.ensures c.put.ensures c.copy_at.ensures refl

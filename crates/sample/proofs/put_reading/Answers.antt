@@ -3,4 +3,4 @@ use Rattle.sample.proofs.put_reading.Goals as goal
 
 pub returns : goal.returns
 returns c =
-    rw (c.put_byte.ensures, c.put_word-3.ensures, c.put_word-2.ensures, c.put_word.ensures, c.bits_of-pattern.ensures)
+    rw (c.put-4.ensures, c.put-3.ensures, c.put-2.ensures, c.put.ensures, c.bits_of-pattern.ensures)

@@ -6,4 +6,4 @@ use Rattle.sample.proofs.put_summary.Goals as goal
 pub returns : goal.returns
 unfolding with_summary
 returns c =
-    rw (c.put_byte.ensures, c.summary_of.ensures ∙ ap₂ summary_of c.word_at-active.ensures c.word_at-mask.ensures)
+    rw (c.put.ensures, c.summary_of.ensures ∙ ap₂ summary_of c.at-active.ensures c.at-mask.ensures)

@@ -11,5 +11,5 @@ use Rattle.sample.proofs.put_trips.Goals as goal
 pub returns : goal.returns
 unfolding with_trip_entries
 returns c =
-    let row = four_in_a_row c.args.values.now status_1 (status_1 + 1) status_2 (status_2 + 1) 1 (bit c.args.t.one.high) (bit c.args.t.one.low) (bit c.args.t.two.high) (bit c.args.t.two.low) refl refl refl (omega (arith, c.requires)) in
-    rw (c.put_word.ensures, c.word_of-word.ensures, c.put_flags.ensures, row)
+    let row = four_in_a_row c.args.values.now status_1 (status_1 + 1) status_2 (status_2 + 1) 1 (bit c.args.t.one.high) (bit c.args.t.one.low) (bit c.args.t.two.high) (bit c.args.t.two.low) refl refl refl (omega arith) in
+    rw (c.put.ensures, c.from.ensures, c.word_of.ensures, c.put_flags.ensures, row)

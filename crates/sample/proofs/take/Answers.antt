@@ -1,19 +1,19 @@
--- `sample::take`: by whether the pressure is usable; then it is no NaN. Assumes nothing.
-use mathlib.Core.Path.{sym, ◌∙◌}
+-- `sample::take`: by whether a pressure is given back; then it is the sample's, and no NaN. Assumes nothing.
 use Rattle.trip.proofs.Pressure.{usable_number}
-use Rattle.sample.proofs.SampleLaws.{taken_usable, taken_unusable}
+use Rattle.sample.proofs.SampleLaws.{some_told, taken_usable, taken_unusable}
 use Rattle.sample.proofs.take.Goals as goal
 
 pub take_usable-requires : goal.take_usable-requires
 take_usable-requires c =
-    (c.requires, usable_number c.args.p c.args.valid (sym c.usable.ensures ∙ c.if-usable.true))
+    let u = some_told _ c.args.p _ c.in-Some.ensures in
+    rw u.1 (usable_number c.args.p c.args.valid u.0)
 
-pub returns-then-usable : goal.returns-then-usable
-returns-then-usable c =
-    let q = taken_usable _ _ _ _ (sym c.usable.ensures ∙ c.if-usable.true) (c.take_usable.ensures.trips, c.take_usable.ensures.values) in
+pub returns-in-Some : goal.returns-in-Some
+returns-in-Some c =
+    let q = taken_usable _ _ c.args.p _ c.in-Some.ensures (c.take_usable.ensures.trips, c.take_usable.ensures.values) in
     record { trips = q.0; values = q.1 }
 
-pub returns : goal.returns
-returns c =
-    let q = taken_unusable _ _ _ _ (sym c.usable.ensures ∙ c.if-usable.false) (c.take_unusable.ensures.trips, c.take_unusable.ensures.values) in
+pub returns-in-None : goal.returns-in-None
+returns-in-None c =
+    let q = taken_unusable _ _ c.args.p _ c.in-None.ensures (c.take_unusable.ensures.trips, c.take_unusable.ensures.values) in
     record { trips = q.0; values = q.1 }

@@ -5,5 +5,5 @@ pub returns : goal.returns
 returns c =
     record {
       trips = c.all_off-off.ensures;
-      values = rw (c.put_trips.ensures, c.all_off-off.ensures, c.put_byte.ensures);
+      values = rw (c.put_trips.ensures, c.all_off-off.ensures, c.put.ensures);
     }

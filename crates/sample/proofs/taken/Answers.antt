@@ -7,5 +7,5 @@ unfolding values_after
 returns c =
     record {
       trips = c.take-next.ensures.trips;
-      values = rw (c.put_word.ensures, c.put_summary.ensures, c.put_faults.ensures, c.take-next.ensures.values);
+      values = rw (c.put.ensures, c.put_summary.ensures, c.put_faults.ensures, c.take-next.ensures.values);
     }

@@ -1,16 +1,16 @@
--- `store`: of values with no trip point crossed. The columns that it lends are computed to be the NV rows'. Assumes nothing.
-use mathlib.Core.Path.{refl, sym, ◌∙◌}
-use Rattle.block.proofs.Whole.{store-crossed}
-use Rattle.block.specs.Asked.{starts, lowest, highest}
-use Rattle.block.specs.Block.{width, nv_rows}
-use Rattle.table.specs.Rows.{rows}
-use Rattle.table.specs.Rule.{pick, rank, real_rank}
+-- `store`: of values with no trip point crossed; the block is written when all entries went into a fresh one. Assumes nothing.
+use mathlib.Core.Path.{sym, ◌∙◌}
+use native.Mathlib.Omega.{arith}
+use Rattle.block.proofs.Whole.{store-crossed, store-refused, store-done}
 use Rattle.store.proofs.store.Goals as goal
 
-pub store_by-requires : goal.store_by-requires
-unfolding rows nv_rows width starts rank real_rank pick lowest highest
-store_by-requires c =
-    (record { kinds_are = refl; ats_are = refl }, refl, record { lows_are = refl; highs_are = refl }, (c.requires.0, sym c.is_straight.ensures ∙ c.if-is_straight.true), c.requires.1)
+pub returns-then-n-lt-NV_ROWS : goal.returns-then-n-lt-NV_ROWS
+returns-then-n-lt-NV_ROWS c =
+    store-refused c.args.values.now c.args.block.now (sym c.is_straight.ensures ∙ c.if-is_straight.true) c.fill_block-n.ensures.0 (omega (arith, c.if-n-lt-NV_ROWS.true))
+
+pub returns-then-is_straight : goal.returns-then-is_straight
+returns-then-is_straight c =
+    store-done c.args.values.now c.args.block.now (sym c.is_straight.ensures ∙ c.if-is_straight.true) c.fill_block-n.ensures.0 (omega arith) c.told-values _ c.fill_block-n.ensures.1 c.write_block.ensures.block c.write_block.ensures.bytes (omega arith)
 
 pub returns : goal.returns
 returns c =

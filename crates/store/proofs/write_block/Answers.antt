@@ -5,4 +5,7 @@ use Rattle.store.proofs.write_block.Goals as goal
 
 pub returns : goal.returns
 returns c =
-    fresh-over c.args.fresh.now c.requires (omega arith) c.clear.ensures c.copy_at.ensures
+    record {
+      block = fresh-over c.args.fresh.now c.told-block (omega arith) (c.fill.ensures.after (λ y e. e)) c.copy_at.ensures;
+      bytes = c.fits-fresh;
+    }

@@ -4,4 +4,4 @@ use Rattle.wire.proofs.copy_seven.Goals as goal
 
 pub returns : goal.returns
 returns c =
-    seven_copied c.args.dst.now c.args.src.now c.args.at c.args.from (λ k. (c.type_inv.src k).fits) c.requires.0 c.requires.1 c.word_at.ensures c.put_word.ensures c.word_at-2.ensures c.put_word-2.ensures
+    seven_copied c.args.dst.now c.args.src.now c.args.at c.args.from (λ k. (c.type_inv.src k).fits) c.requires.0 c.requires.1 c.at.ensures c.put.ensures c.at-2.ensures c.put-2.ensures

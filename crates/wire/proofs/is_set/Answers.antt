@@ -4,4 +4,4 @@ use Rattle.wire.proofs.is_set.Goals as goal
 
 pub returns : goal.returns
 unfolding is_set
-returns c = rw c.byte_at.ensures
+returns c = rw c.at.ensures

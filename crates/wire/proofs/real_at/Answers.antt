@@ -6,4 +6,4 @@ use Rattle.wire.proofs.real_at.Goals as goal
 
 pub returns : goal.returns
 unfolding real
-returns c = c.real_of.ensures ∙ ap (of_bits binary32) c.word_at.ensures
+returns c = c.real_of.ensures ∙ ap (of_bits binary32) c.at.ensures

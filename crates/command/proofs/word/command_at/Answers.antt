@@ -1,5 +1,5 @@
 -- `command::word::command_at`: by the row, whose number says its index. Assumes nothing.
-use mathlib.Core.Path.{◌≡◌, refl, ◌∙◌}
+use mathlib.Core.Path.{◌≡◌, refl, sym, ◌∙◌}
 use mathlib.Core.Bool.{false}
 use Prim.Native.Nat.{ℕ}
 use lib.Dec.{eqb}
@@ -18,17 +18,17 @@ left i a b c = rw (a, b, c)
 
 pub returns-in-117 : goal.returns-in-117
 unfolding command_at rows
-returns-in-117 c = rw c.in-117.is
+returns-in-117 c = rw (sym c.number.ensures.number ∙ c.in-117.is)
 
 pub returns-in-120 : goal.returns-in-120
 unfolding command_at rows
-returns-in-120 c = rw c.in-120.is
+returns-in-120 c = rw (sym c.number.ensures.number ∙ c.in-120.is)
 
 pub returns-in-123 : goal.returns-in-123
 unfolding command_at rows
-returns-in-123 c = rw c.in-123.is
+returns-in-123 c = rw (sym c.number.ensures.number ∙ c.in-123.is)
 
 pub returns-in_default : goal.returns-in_default
 unfolding find_row find_from rows
 returns-in_default c =
-    left (at_row c.args.row).index (by_row 0xFBF0 refl c.args.row c.requires.0 c.requires.1 ∙ ne_eqb _ _ (λ e. omega (arith, e))) (by_row 0xFBF1 refl c.args.row c.requires.0 c.requires.1 ∙ ne_eqb _ _ (λ e. omega (arith, e))) (by_row 0xFBF2 refl c.args.row c.requires.0 c.requires.1 ∙ ne_eqb _ _ (λ e. omega (arith, e)))
+    left (at_row c.args.row).index (by_row 0xFBF0 refl c.args.row c.number.ensures.row c.requires ∙ ne_eqb _ _ (λ e. omega (arith, e))) (by_row 0xFBF1 refl c.args.row c.number.ensures.row c.requires ∙ ne_eqb _ _ (λ e. omega (arith, e))) (by_row 0xFBF2 refl c.args.row c.number.ensures.row c.requires ∙ ne_eqb _ _ (λ e. omega (arith, e)))

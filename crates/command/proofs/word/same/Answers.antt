@@ -1,23 +1,19 @@
--- `command::word::same`: the rest of both lists, compared from here, gives what the whole gives. Assumes nothing.
-use mathlib.Core.Path.{refl, sym, ◌∙◌}
-use borrow.Author.Rules.{rules}
-use Rattle.command.proofs.SameBytes.{other_length, same_here, differ_here, all_compared}
+-- `command::word::same`: std's test is the definition's. Assumes nothing.
+use mathlib.Core.Path.{◌≡◌, refl, ap, ◌∙◌}
+use mathlib.Core.Bool.{Bool, ◌&&◌}
+use mathlib.Core.List.{List, [], ◌∷◌}
+use Prim.Native.Nat.{ℕ}
+use lib.Dec.{eqb}
+use lib.Pointwise.{pointwise}
+use Rattle.command.specs.Words.{same_bytes}
 use Rattle.command.proofs.word.same.Goals as goal
 
-pub returns-then-bytes-word : goal.returns-then-bytes-word
-returns-then-bytes-word c = sym (other_length c.args.bytes.now c.args.word.now c.if-bytes-word.true)
-
-pub loop-i-init : goal.loop-i-init
-loop-i-init c = (search rules, refl)
-
-pub returns-then-bytes-i : goal.returns-then-bytes-i
-returns-then-bytes-i c =
-    sym (differ_here c.args.bytes.now c.args.word.now c.loop-i.i (search rules) (search rules) c.if-bytes-i.true) ∙ c.loop-i.invariant.1
-
-pub loop-i-preserved : goal.loop-i-preserved
-loop-i-preserved c =
-    (search rules, sym (same_here c.args.bytes.now c.args.word.now c.loop-i.i (search rules) (search rules) c.if-bytes-i.false) ∙ c.loop-i.invariant.1)
+alike : (xs ys : List ℕ) → pointwise eqb xs ys ≡ same_bytes xs ys
+unfolding same_bytes
+alike [] [] = refl
+alike [] (y ∷ ys) = refl
+alike (x ∷ xs) [] = refl
+alike (x ∷ xs) (y ∷ ys) = ap (λ (b : Bool). eqb x y && b) (alike xs ys)
 
 pub returns : goal.returns
-returns c =
-    sym (all_compared c.args.bytes.now c.args.word.now c.loop-i.i (search rules) (search rules)) ∙ c.loop-i.invariant.1
+returns c = c.eq.ensures ∙ alike c.args.bytes.now c.args.word.now

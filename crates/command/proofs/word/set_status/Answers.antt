@@ -4,4 +4,4 @@ use Rattle.command.proofs.word.set_status.Goals as goal
 
 pub returns : goal.returns
 unfolding with_status
-returns c = rw (c.put_byte-2.ensures, c.put_byte.ensures, c.status_of-at.ensures.0)
+returns c = rw (c.put-2.ensures, c.put.ensures, c.status_of-at.ensures.0)

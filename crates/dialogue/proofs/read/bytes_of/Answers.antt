@@ -10,48 +10,12 @@ use Rattle.wire.proofs.SpliceLaws.{splice-whole}
 use Rattle.dialogue.proofs.read.bytes_of.Goals as goal
 
 pub loop-i-init : goal.loop-i-init
-loop-i-init c = (omega arith, (refl, splice-whole _ (pairs c.args.text.now) (length_pairs 8 c.args.text.now c.requires)))
-
-pub overflow_mul-i : goal.overflow_mul-i
-overflow_mul-i c = omega arith
-
-pub bounds-text-i : goal.bounds-text-i
-bounds-text-i c = omega arith
-
-pub value_of-high-requires : goal.value_of-high-requires
-value_of-high-requires c = omega arith
-
-pub overflow_mul-i-in-loop-i : goal.overflow_mul-i-in-loop-i
-overflow_mul-i-in-loop-i c = omega arith
-
-pub overflow_add-i : goal.overflow_add-i
-overflow_add-i c = omega arith
-
-pub bounds-text-i-in-loop-i : goal.bounds-text-i-in-loop-i
-bounds-text-i-in-loop-i c = omega arith
-
-pub value_of-low-requires : goal.value_of-low-requires
-value_of-low-requires c = omega arith
-
-pub overflow_mul-eight : goal.overflow_mul-eight
-overflow_mul-eight c = omega arith
-
-pub overflow_add-eight : goal.overflow_add-eight
-overflow_add-eight c = omega arith
-
-pub bounds-eight-i : goal.bounds-eight-i
-bounds-eight-i c = omega arith
-
-pub overflow_add-i-in-loop-i : goal.overflow_add-i-in-loop-i
-overflow_add-i-in-loop-i c = omega arith
-
-pub loop-i-smaller : goal.loop-i-smaller
-loop-i-smaller c = omega arith
+loop-i-init c = (refl, splice-whole _ (pairs c.args.text.now) (length_pairs 8 c.args.text.now c.requires))
 
 pub loop-i-preserved : goal.loop-i-preserved
 loop-i-preserved c =
-    (omega arith, (simp length-set c.loop-i.invariant.1.0, byte_turn c.loop-i.eight _ c.args.text.now c.loop-i.i c.value_of-high.result c.value_of-low.result (omega arith) (omega arith) c.value_of-high.ensures.0 c.value_of-low.ensures.0 c.loop-i.invariant.1.1))
+    (simp length-set c.loop-i.invariant.0, byte_turn c.loop-i.eight _ c.args.text.now c.loop-i.i c.value_of-high.result c.value_of-low.result (omega arith) (omega arith) c.value_of-high.ensures.0 c.value_of-low.ensures.0 c.loop-i.invariant.1)
 
 pub returns : goal.returns
 unfolding pairs
-returns c = store-done c.loop-i.eight _ c.loop-i.i _ (ap pairs (drop_of_length-le c.args.text.now {i = 2 * c.loop-i.i} (omega arith))) c.loop-i.invariant.1.1
+returns c = store-done c.loop-i.eight _ c.loop-i.i _ (ap pairs (drop_of_length-le c.args.text.now {i = 2 * c.loop-i.i} (omega arith))) c.loop-i.invariant.1

@@ -6,10 +6,10 @@ use Rattle.table.specs.Rows.{at_row}
 use Rattle.gate.specs.Lock.{guarded, locked}
 use Rattle.gate.proofs.lock.refuses.Goals as goal
 
-pub returns-then-byte_at-eq1 : goal.returns-then-byte_at-eq1
+pub returns-then-at-eq1 : goal.returns-then-at-eq1
 unfolding locked
-returns-then-byte_at-eq1 c = c.guards.ensures ∙ sym (ap (λ (b : Bool). guarded (at_row c.args.row) && b) (eq-eqb _ 1 (sym c.byte_at.ensures ∙ c.if-byte_at-eq1.true)) ∙ and-true (guarded (at_row c.args.row)))
+returns-then-at-eq1 c = c.guards.ensures ∙ sym (ap (λ (b : Bool). guarded (at_row c.args.row) && b) (eq-eqb _ 1 (sym c.at.ensures ∙ c.if-at-eq1.true)) ∙ and-true (guarded (at_row c.args.row)))
 
 pub returns : goal.returns
 unfolding locked
-returns c = sym (ap (λ (b : Bool). guarded (at_row c.args.row) && b) (ne_eqb _ 1 (λ e. c.if-byte_at-eq1.false (c.byte_at.ensures ∙ e))) ∙ and-false (guarded (at_row c.args.row)))
+returns c = sym (ap (λ (b : Bool). guarded (at_row c.args.row) && b) (ne_eqb _ 1 (λ e. c.if-at-eq1.false (c.at.ensures ∙ e))) ∙ and-false (guarded (at_row c.args.row)))

@@ -5,7 +5,7 @@ use Rattle.gauge.proofs.crossing.entry_crosses.Goals as goal
 
 pub is_after-requires : goal.is_after-requires
 is_after-requires c =
-    (c.requires.0, omega arith, c.requires.3 (sym c.is_among.ensures ∙ c.if-is_among.true))
+    (omega arith, c.requires.2 (sym c.is_among.ensures ∙ c.if-is_among.true))
 
 pub returns-then-is_among : goal.returns-then-is_among
 returns-then-is_among c = rw (← c.is_among.ensures, c.if-is_among.true) c.is_after.ensures

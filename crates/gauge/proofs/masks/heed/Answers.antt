@@ -2,10 +2,10 @@
 use Rattle.gauge.specs.Masks.{heeding}
 use Rattle.gauge.proofs.masks.heed.Goals as goal
 
-pub returns-then-not-came : goal.returns-then-not-came
+pub returns-then-came : goal.returns-then-came
 unfolding heeding
-returns-then-not-came c = rw c.if-not-came.true
+returns-then-came c = rw (c.if-came.true, c.put_summary.ensures)
 
-pub returns : goal.returns
+pub returns-else-came : goal.returns-else-came
 unfolding heeding
-returns c = rw (c.if-not-came.false, c.put_summary.ensures)
+returns-else-came c = rw c.if-came.false

@@ -5,18 +5,18 @@ use Rattle.table.specs.Rows.{at_row}
 use Rattle.gauge.proofs.CommitLaws.{read_card, read_command, read_other, word_left}
 use Rattle.gauge.proofs.read.value_of.Goals as goal
 
-pub returns-then-kind-lt-CARD : goal.returns-then-kind-lt-CARD
-returns-then-kind-lt-CARD c =
-    read_other (at_row c.args.row) c.args.values.now c.args.kind c.requires.2 (λ e. omega (arith, e, c.if-kind-lt-CARD.true)) (λ e. omega (arith, e, c.if-kind-lt-CARD.true)) c.read_entry.ensures
+pub returns-in-0-to-6 : goal.returns-in-0-to-6
+returns-in-0-to-6 c =
+    read_other (at_row c.args.row) c.args.values.now c.kind.result c.kind.ensures.kind (λ e. omega (arith, e)) (λ e. omega (arith, e)) c.read_entry.ensures
 
-pub returns-then-kind-eq-CARD : goal.returns-then-kind-eq-CARD
-returns-then-kind-eq-CARD c =
-    read_card (at_row c.args.row) c.args.values.now c.args.kind c.requires.2 c.if-kind-eq-CARD.true c.card_of.ensures
+pub returns-in-7 : goal.returns-in-7
+returns-in-7 c =
+    read_card (at_row c.args.row) c.args.values.now c.kind.result c.kind.ensures.kind c.in-7.is c.card_of.ensures
 
 pub command_at-requires : goal.command_at-requires
 command_at-requires c =
-    (c.requires.1, word_left c.args.row c.args.kind c.requires.1 c.requires.2 c.if-kind-lt-CARD.false c.if-kind-eq-CARD.false)
+    word_left c.args.row c.kind.result c.kind.ensures.row c.kind.ensures.kind (omega arith) (λ e. omega (arith, e))
 
-pub returns : goal.returns
-returns c =
-    read_command (at_row c.args.row) c.args.values.now c.args.kind c.requires.2 (c.requires.2 ∙ word_left c.args.row c.args.kind c.requires.1 c.requires.2 c.if-kind-lt-CARD.false c.if-kind-eq-CARD.false) (c.reading.ensures ∙ rw c.command_at.ensures)
+pub returns-in_default : goal.returns-in_default
+returns-in_default c =
+    read_command (at_row c.args.row) c.args.values.now c.kind.result c.kind.ensures.kind (c.kind.ensures.kind ∙ word_left c.args.row c.kind.result c.kind.ensures.row c.kind.ensures.kind (omega arith) (λ e. omega (arith, e))) (c.reading.ensures ∙ rw c.command_at.ensures)

@@ -1,5 +1,4 @@
--- `line::read::short_answer`: from the values or from a copy, the value. Assumes nothing.
--- the card is longer than four bytes
+-- `line::read::short_answer`: from the values or from a copy, the value; the card is longer than four bytes. Assumes nothing.
 use mathlib.Core.Path.{◌≡◌, sym, ap, ap₂, ◌∙◌}
 use mathlib.Core.List.{List}
 use mathlib.Core.Bool.{true}
@@ -7,38 +6,46 @@ use Prim.Native.Nat.{ℕ, ◌+◌, ◌-◌, ◌<◌, ◌≤◌}
 use native.Mathlib.Omega.{arith}
 use lib.ListN.{take, drop}
 use Rattle.order.specs.Talk.{opened}
-use Rattle.table.specs.Row.{CARD}
+use Rattle.table.specs.Row.{CARD, COMMAND}
 use Rattle.table.specs.Rows.{row_count, at_row}
 use Rattle.table.proofs.Table.{row_rule, placed}
 use Rattle.table.proofs.Widths.{card_width}
-use Rattle.gauge.proofs.CommitLaws.{word_left, read_command}
+use Rattle.transfer.specs.Turns.{filled}
+use Rattle.gauge.proofs.CommitLaws.{value_command}
 use Rattle.sdo.specs.Eight.{answer_of}
 use Rattle.line.proofs.Reading.{shown-whole, shown-part}
 use Rattle.line.proofs.read.short_answer.Goals as goal
 
-no-card : (row kind : ℕ) → row < row_count → kind ≡ (at_row row).kind → {len : ℕ} → len ≡ (at_row row).len → len ≤ 4 → kind ≡ CARD → ⊥
-no-card row kind h e n l q = omega (arith, n, l, card_width (at_row row) (row_rule row h) (sym e ∙ q))
+is_command : (row : ℕ) → row < row_count → (at_row row).len ≤ 4 → CARD ≤ (at_row row).kind → (at_row row).kind ≡ COMMAND
+is_command row h l k =
+    let no-card : (at_row row).kind ≡ CARD → ⊥ = λ e. omega (arith, card_width (at_row row) (row_rule row h) e) in
+    omega (arith, (row_rule row h).kind_known)
 
 pub overflow_add-place : goal.overflow_add-place
 overflow_add-place c =
-    omega (arith, placed c.args.row c.requires.1.0 (omega (arith, c.requires.2, c.if-kind-lt-CARD.true)), c.place_of-place.ensures, c.requires.3)
+    let k : (at_row c.args.row).kind < CARD = omega arith in
+    omega (arith, placed c.args.row c.kind.ensures.row k)
+
+pub slice_bounds-opened_short-end : goal.slice_bounds-opened_short-end
+slice_bounds-opened_short-end c =
+    let k : (at_row c.args.row).kind < CARD = omega arith in
+    omega (arith, placed c.args.row c.kind.ensures.row k, c.told-values)
 
 pub returns-then-kind-lt-CARD : goal.returns-then-kind-lt-CARD
 returns-then-kind-lt-CARD c =
-    let n : c.place_of-place.result + c.args.len - c.place_of-place.result ≡ c.args.len = omega arith in
+    let k : (at_row c.args.row).kind < CARD = omega arith in
+    let n : c.place-place.result + c.len-len.result - c.place-place.result ≡ c.len-len.result = omega arith in
     c.opened_short.ensures
-    ∙ ap (λ (l : List ℕ). answer_of (opened c.args.k c.args.len l true)) (shown-part c.args.values.now c.args.row c.requires.1.0 c.requires.0 c.requires.3 (omega (arith, c.requires.2, c.if-kind-lt-CARD.true)) (ap₂ (λ (m a : ℕ). take m (drop a c.args.values.now)) n c.place_of-place.ensures))
+    ∙ ap₂ (λ (n : ℕ) (l : List ℕ). answer_of (opened c.args.k n l true)) c.len-len.ensures.len
+    (shown-part c.args.values.now c.args.row c.kind.ensures.row c.told-values c.len-len.ensures.len k (ap₂ (λ (m a : ℕ). take m (drop a c.args.values.now)) n c.place-place.ensures.place))
 
 pub command_at-requires : goal.command_at-requires
-command_at-requires c =
-    (c.requires.1.0, word_left c.args.row c.args.kind c.requires.1.0 c.requires.2 c.if-kind-lt-CARD.false (no-card c.args.row c.args.kind c.requires.1.0 c.requires.2 c.requires.3 c.requires.4.1))
+command_at-requires c = is_command c.args.row c.kind.ensures.row (omega arith) (omega arith)
 
 pub returns : goal.returns
 returns c =
-    let k = c.requires.2 ∙ word_left c.args.row c.args.kind c.requires.1.0 c.requires.2 c.if-kind-lt-CARD.false (no-card c.args.row c.args.kind c.requires.1.0 c.requires.2 c.requires.3 c.requires.4.1) in
-    let v = read_command (at_row c.args.row) c.args.values.now c.args.kind c.requires.2 k (c.reading-held.ensures ∙ rw c.command_at.ensures) in
+    let k = is_command c.args.row c.kind.ensures.row (omega arith) (omega arith) in
+    let v = c.reading-held.ensures ∙ rw c.command_at.ensures (ap filled (sym (value_command (at_row c.args.row) c.args.values.now k))) in
     c.opened_short-2.ensures
-    ∙ ap (λ (l : List ℕ). answer_of (opened c.args.k c.args.len l true)) (shown-whole c.args.values.now c.args.row c.requires.1.0 c.requires.0 c.requires.3 v)
-
-pub slice_bounds-opened_short-end : goal.slice_bounds-opened_short-end
-slice_bounds-opened_short-end c = omega (arith, placed c.args.row c.requires.1.0 (omega (arith, c.requires.2, c.if-kind-lt-CARD.true)), c.place_of-place.ensures, c.requires.3, c.requires.0)
+    ∙ ap₂ (λ (n : ℕ) (l : List ℕ). answer_of (opened c.args.k n l true)) c.len-len.ensures.len
+    (shown-whole c.args.values.now c.args.row c.kind.ensures.row c.told-values c.len-len.ensures.len v)

@@ -1,7 +1,6 @@
--- `line::reply::wrong_toggle`: each return is one law, given what the calls ensure. Assumes nothing.
+-- `line::reply::wrong_toggle`: an abort that only drops a transfer has the bytes of any abort. Assumes nothing.
 use Rattle.line.proofs.Reading.{dropped_put}
 use Rattle.line.proofs.reply.wrong_toggle.Goals as goal
 
 pub returns : goal.returns
-returns c =
-    dropped_put c.args.at c.args.state.now c.args.room.now c.args.k c.abort.ensures c.ended.ensures
+returns c = dropped_put c.args.at c.args.state.now c.args.room.now c.args.k c.abort.ensures c.ended.ensures

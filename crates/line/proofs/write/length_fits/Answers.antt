@@ -1,9 +1,12 @@
 -- `line::write::length_fits`: by the tests. Assumes nothing.
-use Rattle.line.proofs.Writing.{below_misfits, above_asked}
+use mathlib.Core.Path.{◌≡◌, ◌∙◌}
+use mathlib.Core.Bool.{◌&&◌}
+use lib.Dec.{leb}
+use borrow.Author.Rules.{rules}
+use Rattle.line.proofs.Writing.{between_fits}
 use Rattle.line.proofs.write.length_fits.Goals as goal
 
-pub returns-then-n-low : goal.returns-then-n-low
-returns-then-n-low c = below_misfits c.args.low c.args.high c.args.n c.if-n-low.true
-
 pub returns : goal.returns
-returns c = above_asked c.args.low c.args.high c.args.n c.if-n-low.false
+returns c =
+    let e : c.contains.result ≡ (leb c.args.low c.args.n && leb c.args.n c.args.high) = search rules in
+    e ∙ between_fits c.args.low c.args.high c.args.n

@@ -1,5 +1,5 @@
 -- `line::write::open_parts`: each return is one law, given what the calls ensure. Assumes nothing.
-use mathlib.Core.Path.{sym, ap, ◌∙◌}
+use mathlib.Core.Path.{sym, ap₂, ◌∙◌}
 use mathlib.Core.List.{List, []}
 use Prim.Native.Nat.{ℕ}
 use native.Mathlib.Omega.{arith}
@@ -12,4 +12,4 @@ use Rattle.line.proofs.write.open_parts.Goals as goal
 
 pub returns : goal.returns
 returns c =
-    parts_opened c.args.at c.args.state.now c.args.room.now c.args.k c.args.row c.args.len [] (omega arith) (c.opened-next.ensures ∙ ap (λ (h : List ℕ). opened_record Writes c.args.row h c.args.len 0) (sym (splice_none (replicate 64 0) 0))) c.write_opened.ensures c.going.ensures
+    parts_opened c.args.at c.args.state.now c.args.room.now c.args.k c.args.row c.args.len [] (omega arith) (c.opened-next.ensures ∙ ap₂ (λ (r : ℕ) (h : List ℕ). opened_record Writes r h c.args.len 0) c.number.ensures.number (sym (splice_none (replicate 64 0) 0))) c.write_opened.ensures c.going.ensures

@@ -1,44 +1,38 @@
 -- `line::write::send_part`: each return is one law, given what the calls ensure. Assumes nothing.
-use lib.ListN.{take, drop}
-use Rattle.sdo.proofs.Facts.{said}
+use mathlib.Core.Path.{sym, ap, ◌∙◌}
+use Rattle.transfer.specs.Records.{key_at}
 use Rattle.transfer.specs.Turns.{is_writing}
 use Rattle.transfer.proofs.RecordLaws.{held_fits}
-use Rattle.line.proofs.Writing.{writing-row, sent-last, sent_more, sent_wrong, sent_none}
+use Rattle.line.proofs.Doors.{some_when, none_when}
 use Rattle.line.proofs.Told.{room_of}
+use Rattle.line.proofs.Writing.{writing-row, sent-last, sent_more, sent_wrong, sent_none}
 use Rattle.line.proofs.write.send_part.Goals as goal
 
 pub take_last-requires : goal.take_last-requires
 take_last-requires c =
-    let e = said c.writing.ensures c.if-writing.true in
-    let f = held_fits c.record_at-t.result (is_writing c.record_at-t.result.direction) e in
-    (c.requires.0, c.requires.1, writing-row c.record_at-t.result e, f.fitting_length, f.place_in, c.record_at-t.ensures)
+    let e = some_when _ _ _ c.writing.ensures c.in-Some.is in
+    let f = held_fits c.record_at-t.result (is_writing c.record_at-t.result.direction) e.0 in
+    (c.requires, writing-row c.record_at-t.result e.0, sym e.1, f.fitting_length, f.place_in, c.record_at-t.ensures)
 
 pub returns-then-last : goal.returns-then-last
 returns-then-last c =
-    let bytes = take c.args.count (drop c.args.from c.args.m.now) in
-    sent-last c.args.at c.args.values.now c.args.block.now c.args.state.now c.args.room.now c.record_at-t.result c.args.toggle bytes c.args.last c.record_at-t.ensures (said c.writing.ensures c.if-writing.true) c.if-expected-toggle.true c.if-last.true c.take_last.ensures
+    sent-last c.args.at c.args.values.now c.args.block.now c.args.state.now c.args.room.now c.record_at-t.result c.args.toggle c.args.part.now c.args.last c.record_at-t.ensures (some_when _ _ _ c.writing.ensures c.in-Some.is).0 c.if-t-toggle.true c.if-last.true c.take_last.ensures
 
 pub take_more-requires : goal.take_more-requires
 take_more-requires c =
-    let e = said c.writing.ensures c.if-writing.true in
-    let f = held_fits c.record_at-t.result (is_writing c.record_at-t.result.direction) e in
-    (room_of c.requires.0, c.requires.1, writing-row c.record_at-t.result e, f.fitting_length, f.place_in, c.record_at-t.ensures)
+    let e = some_when _ _ _ c.writing.ensures c.in-Some.is in
+    let f = held_fits c.record_at-t.result (is_writing c.record_at-t.result.direction) e.0 in
+    (room_of c.told-state c.requires, writing-row c.record_at-t.result e.0, sym e.1, f.fitting_length, f.place_in, c.record_at-t.ensures)
 
-pub returns-then-expected-toggle : goal.returns-then-expected-toggle
-returns-then-expected-toggle c =
-    let bytes = take c.args.count (drop c.args.from c.args.m.now) in
-    sent_more c.args.at c.args.values.now c.args.block.now c.args.state.now c.args.room.now c.record_at-t.result c.args.toggle bytes c.args.last c.record_at-t.ensures (said c.writing.ensures c.if-writing.true) c.if-expected-toggle.true c.if-last.false c.take_more.ensures
+pub returns-else-last : goal.returns-else-last
+returns-else-last c =
+    sent_more c.args.at c.args.values.now c.args.block.now c.args.state.now c.args.room.now c.record_at-t.result c.args.toggle c.args.part.now c.args.last c.record_at-t.ensures (some_when _ _ _ c.writing.ensures c.in-Some.is).0 c.if-t-toggle.true c.if-last.false c.take_more.ensures
 
-pub key_at-requires : goal.key_at-requires
-key_at-requires c =
-    (writing-row c.record_at-t.result (said c.writing.ensures c.if-writing.true)).there
+pub returns-in-Some-2 : goal.returns-in-Some-2
+returns-in-Some-2 c =
+    let e = some_when _ _ _ c.writing.ensures c.in-Some.is in
+    sent_wrong c.args.at c.args.values.now c.args.block.now c.args.state.now c.args.room.now c.record_at-t.result c.args.toggle c.args.part.now c.args.last c.record_at-t.ensures e.0 c.if-t-toggle.false (c.key_at.ensures ∙ ap key_at e.1) c.wrong_toggle.ensures
 
-pub returns-then-writing : goal.returns-then-writing
-returns-then-writing c =
-    let bytes = take c.args.count (drop c.args.from c.args.m.now) in
-    sent_wrong c.args.at c.args.values.now c.args.block.now c.args.state.now c.args.room.now c.record_at-t.result c.args.toggle bytes c.args.last c.record_at-t.ensures (said c.writing.ensures c.if-writing.true) c.if-expected-toggle.false c.key_at.ensures c.wrong_toggle.ensures
-
-pub returns : goal.returns
-returns c =
-    let bytes = take c.args.count (drop c.args.from c.args.m.now) in
-    sent_none c.args.at c.args.values.now c.args.block.now c.args.state.now c.args.room.now c.record_at-t.result c.args.toggle bytes c.args.last c.record_at-t.ensures (said c.writing.ensures c.if-writing.false) c.no_transfer.ensures c.ended.ensures
+pub returns-in-None : goal.returns-in-None
+returns-in-None c =
+    sent_none c.args.at c.args.values.now c.args.block.now c.args.state.now c.args.room.now c.record_at-t.result c.args.toggle c.args.part.now c.args.last c.record_at-t.ensures (none_when _ _ c.writing.ensures c.in-None.is) c.no_transfer.ensures c.ended.ensures

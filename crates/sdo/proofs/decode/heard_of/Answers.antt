@@ -9,7 +9,7 @@ use Rattle.sdo.proofs.decode.heard_of.Goals as goal
 
 pub returns-in-0 : goal.returns-in-0
 unfolding heard_of choice
-returns-in-0 c = rw (c.in-0.is, c.bit_of.ensures, c.to_usize.ensures.0, c.bit_of-in-0.ensures)
+returns-in-0 c = rw (c.in-0.is, c.bit_of.ensures, c.from.ensures, c.bit_of-in-0.ensures)
 
 pub returns-in-1 : goal.returns-in-1
 unfolding heard_of choice

@@ -5,7 +5,7 @@ use Rattle.sdo.proofs.decode.opening_of.Goals as goal
 
 pub returns-then-bit_of-2 : goal.returns-then-bit_of-2
 unfolding opening_by
-returns-then-bit_of-2 c = rw (said c.bit_of.ensures c.if-bit_of.true, said c.bit_of-then-bit_of.ensures c.if-bit_of-2.true, c.to_usize.ensures.0)
+returns-then-bit_of-2 c = rw (said c.bit_of.ensures c.if-bit_of.true, said c.bit_of-then-bit_of.ensures c.if-bit_of-2.true, c.from.ensures)
 
 pub returns-then-bit_of : goal.returns-then-bit_of
 unfolding opening_by
@@ -13,7 +13,7 @@ returns-then-bit_of c = rw (said c.bit_of.ensures c.if-bit_of.true, said c.bit_o
 
 pub returns-then-bit_of-3 : goal.returns-then-bit_of-3
 unfolding opening_by
-returns-then-bit_of-3 c = rw (said c.bit_of.ensures c.if-bit_of.false, said c.bit_of-2.ensures c.if-bit_of-3.true, c.word_at.ensures)
+returns-then-bit_of-3 c = rw (said c.bit_of.ensures c.if-bit_of.false, said c.bit_of-2.ensures c.if-bit_of-3.true, c.at.ensures)
 
 pub returns : goal.returns
 unfolding opening_by

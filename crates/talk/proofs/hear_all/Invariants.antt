@@ -1,6 +1,0 @@
--- No more is kept of a line than its room holds.
-use Rattle.std.proofs.Common.{◌≤◌}
-use Rattle.talk.proofs.hear_all.Given as goal
-
-abbrev pub invariant-loop : goal.invariant-loop
-invariant-loop g l = l.pending.count ≤ 20

@@ -1,7 +1,0 @@
--- `wire::put_byte`: one store is a splice of one byte. Assumes nothing.
-use borrow.Author.Rules.{rules}
-use Rattle.wire.proofs.Stores.{one_store}
-use Rattle.wire.proofs.put_byte.Goals as goal
-
-pub returns : goal.returns
-returns c = one_store c.args.s.now c.args.at c.args.v c.requires (search rules)
