@@ -516,7 +516,7 @@ def columns_rt(rows, end):
         ("NV_LOW", "u32", [rank(r, r["low"]) for r in nv]),
         ("NV_HIGH", "u32", [rank(r, r["high"]) if is_number(r) else 2**32 - 1 for r in nv]),
     ]
-    text = """// The object table as flat constant arrays. tools/table.py writes this file from docs/object-table.md.
+    text = """// The object table as flat constant arrays (R16.3). tools/table.py writes this file from docs/object-table.md.
 // Columns are few and narrow: INDEX and SUB have each row's key, SHAPE its type, access,
 // NV mark and length, and PLACING its place in the values and the number of its limits in MINIMUM and MAXIMUM, since few pairs serve all
 // rows. A ULINT's limits are not there: it takes every number. WORD_PLACE and WORD have the words that make the defaults out of zeros.

@@ -47,6 +47,7 @@ fn spread(s: &mut [u8], first: usize, last: usize, v: u64)
     ensures { bits s.new ≡ splice (bits s.old) (8 * first) (msb (8 * (last - first)) v) }
 {
     let mut rest = v;
+    // by an index: tried by iter_mut and rev, behind which nothing is known of the bytes
     for i in (first..last).rev() {
         s[i] = (rest % 256) as u8;
         rest /= 256;

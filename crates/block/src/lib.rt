@@ -101,7 +101,7 @@ pub fn is_headed(block: &Block) -> bool
     bits::get_field(block, 4, 4) == MODEL
 }
 
-// Is a block not faulty? Then the numbers of all its entries go into the room for them.
+// Is a block not faulty? Then the numbers of all its entries go into the room for them, as above.
 pub fn take_numbers(block: &Block, numbers: &mut [u32; columns::NV_ROWS]) -> bool
     ensures taken { result ≡ loadable block.now }
     ensures numbers { result ≡ true → numbers.new ≡ saved_numbers (bits block.now) 8 saved_rows }

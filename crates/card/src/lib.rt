@@ -17,7 +17,7 @@ fn enable_at(values: &[u8], at: usize) -> u32
     u32::from(wire::is_set(values, at))
 }
 
-// The fields of the point whose entries begin at a place.
+// The fields of the point whose entries begin at a place, by their places in the card, as `point_fields` lists them (R3.2).
 fn point_at(values: &[u8], from: usize) -> [u32; 6]
     requires { from + 34 ≤ length values.now }
     ensures { result ≡ point_fields values.now from }
@@ -93,7 +93,7 @@ fn put_card(card: &mut [u8], values: &Values)
     put_words(card, 17, two[2], two[3], two[4], two[5]);
 }
 
-// The 33 bytes of the card, with zeros behind them.
+// The 33 bytes of the card, with zeros behind them: no heap, so it has the room of what is held (R16.5).
 pub fn card_of(values: &Values) -> [u8; 64]
     ensures { result ≡ splice (replicate 64 0) 0 (card_of values.now) }
 {

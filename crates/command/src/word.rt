@@ -48,7 +48,7 @@ pub fn is_word(command: Command, bytes: &[u8]) -> bool
     }
 }
 
-// What a command word reads as, with zeros behind it.
+// What a command word reads as, with zeros behind it, in the room of what is held (R16.5).
 pub fn reading(command: Command) -> [u8; 64]
     ensures { result ≡ splice (replicate 64 0) 0 (read_word command) }
 {

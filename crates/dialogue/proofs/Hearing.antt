@@ -50,6 +50,18 @@ pub record Holds (text : List ℕ) (n : ℕ) (l : List ℕ) : Type 0 where
 holds_none : (text : List ℕ) → length text ≡ 20 → Holds text 0 []
 holds_none text h = record { wide = h; counted = refl; kept = refl }
 
+-- never more than twenty bytes
+extended-count : (text : List ℕ) (n b : ℕ) → n ≤ 20 → (extended text n b).count ≤ 20
+unfolding extended
+extended-count text n b h =
+    by_test (eqb b 10)
+    (λ e. rw e h)
+    (λ e. rw e (by_test (ltb n 20) (λ f. rw f (omega (arith, ltb-true n 20 f))) (λ f. rw f h)))
+
+pub after-count : (p : Pending) (b : ℕ) → p.count ≤ 20 → (after p b).count ≤ 20
+unfolding after
+after-count p b h = extended-count p.text (cond p.ended 0 p.count) b (by_test p.ended (λ e. rw e (omega arith)) (λ e. rw e h))
+
 module _ (text l : List ℕ) (n b : ℕ) (k : Holds text n l) where
   holds_more : n < 20 → Holds (set text n b) (n + 1) (l ++ (b ∷ []))
   holds_more h =

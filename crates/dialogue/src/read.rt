@@ -40,6 +40,7 @@ fn bytes_of(text: &[u8]) -> [u8; 8]
     ensures { result ≡ pairs text.now }
 {
     let mut eight = [0u8; 8];
+    // by an index, since a byte takes two digits
     for i in 0..8 {
         let high = value_of(text[2 * i]);
         let low = value_of(text[2 * i + 1]);

@@ -1,4 +1,5 @@
-// A trip card that is written: its fields, its judgement, and the write into the trip entries.
+// A trip card that is written: its fields, its judgement, and the write into the trip entries. It is a slice of 33 bytes by a clause and no array: it comes as what was
+// sent, whose length is known from its row, and to make an array of it would be one more way out.
 #![tactic(auto)]
 
 ghost use Rattle.std.specs.Prelude.{◌&&◌, ◌||◌, ◌≡◌, ◌+◌, ◌*◌, ◌/◌, ◌%◌, ◌≤◌, ◌<◌, length, get_or};

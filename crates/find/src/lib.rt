@@ -23,7 +23,7 @@ pub struct Search {
 }
 
 // What `halve` comes to is one number: how many rows were looked at, times 1,024, and the row, or one of these two, which are no row's.
-// A struct with a Result in it is given back through memory at each call: tried, a short read took 444 instructions for 254, of 340.
+// A struct with a Result in it is given back through memory at each call: tried, a short read takes 444 instructions for 246, of 340.
 const NO_INDEX: u32 = 512;
 
 const NO_SUB: u32 = 513;
@@ -54,8 +54,8 @@ fn absent(seen: bool) -> u32
 }
 
 // The search by halves, by hand as R16.10 asks, since its looks are counted (R1.9). So many rows are left, from low on. The middle one is looked at,
-// and a half of the others is left. `% 512` tells the compiler that a row's
-// number is none of the two above, and `looked` is bounded so that the answer fits.
+// and a half of the others is left. `% 512` tells the compiler that a row's number is none of the two above, and `looked` is bounded so that the
+// answer fits.
 fn halve(low: usize, left: usize, index: u16, sub: u8, seen: bool, looked: u32) -> u32
     requires { (low + left ≤ row_count) × (looked + left ≤ 511) }
     ensures { result ≡ search_number index sub seen low left looked }

@@ -24,6 +24,7 @@ fn way(index: u16, sub: u8, barred: Access, abort: AbortCode) -> Result<Row, Abo
     Ok(row)
 }
 
+// Two names for the one way, which PROMISES has.
 pub fn to_read(index: u16, sub: u8) -> Result<Row, AbortCode>
     ensures { way_of result ≡ read_gate (find_row index sub) }
 {

@@ -8,7 +8,7 @@ use command::word;
 use find::row::Row;
 use table::{Values, kind};
 
-// The row's value as it is now, with zeros behind it.
+// The row's value as it is now, with zeros behind it, in the room of what is held (R16.5).
 pub fn value_of(values: &Values, row: Row) -> [u8; 64]
     ensures { result ≡ splice (replicate 64 0) 0 (value_of (at_row row) values.now) }
 {

@@ -1,5 +1,5 @@
 // Writes by mailbox: openings, which may bring bytes behind their eight, and parts. An opening is held to another form of crate order than line's,
-// and what that form asks of it is told by other definitions, so a function for both would have both contracts.
+// and what that form asks of it is told by other definitions, so a function for both would have both contracts. Parameters are as in crate line.
 #![tactic(auto)]
 
 ghost use Rattle.std.specs.Prelude.{not, ◌++◌, ◌≡◌, ◌+◌, ◌≤◌, Option, Some, unwrap_or, length, take, is_some, eqb, ◌&&◌};

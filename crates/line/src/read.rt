@@ -1,4 +1,4 @@
-// Reads on a line: openings and parts.
+// Reads on a line: openings and parts. A key goes beside its row, since it is the message's own and the row's would be read again.
 ghost use Rattle.std.specs.Prelude.{true, [], ◌≡◌, ◌≤◌, take};
 ghost use Rattle.order.specs.Talk.{opened, value};
 ghost use Rattle.order.specs.Serve.{read_opening, give_part, read_part};

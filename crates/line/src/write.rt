@@ -23,7 +23,8 @@ use table::code::AbortCode;
 use table::{Block, Values};
 use transfer::{Direction, Transfer};
 
-// May a value have the length that a client says or has sent, by the smallest and the largest? PROMISES names it, so it stays beside std's `contains`.
+// May a value have the length that a client says or has sent, by the smallest and the largest? A name for what
+// the range means, asked in two crates.
 pub fn length_fits(low: usize, high: usize, n: usize) -> bool
     ensures { result ≡ by_length low high n (λ c. false) true }
 {

@@ -1,5 +1,5 @@
 // Reads by mailbox: openings that carry the value, and parts. An entry has 64 bytes at most, so an opening carries all of it and a part is the last.
-// Each function puts its answer into the room and gives its length, where line's gives eight bytes: a function for both would do neither plainly.
+// Each function puts its answer into the room and gives its length, where line's gives eight bytes: a function for both would do neither plainly. The room is a part of what C lends, so its length is a clause.
 #![tactic(auto)]
 
 ghost use Rattle.std.specs.Prelude.{[], ◌≡◌, ◌+◌, ◌≤◌, length, take};

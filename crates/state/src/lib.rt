@@ -71,7 +71,7 @@ pub fn record_at(state: &[u8], at: usize) -> Transfer
     }
 }
 
-// What stands behind the held bytes: row, direction, length, place, toggle.
+// What stands behind the held bytes: row, direction, length, place, toggle. By put_number, since no clause says that row, length and place fit.
 fn put_tail(state: &mut [u8], at: usize, t: Transfer)
     requires { at + record_size ≤ length state.old }
     ensures { state.new ≡ splice state.old (at + 64) (record_tail t) }

@@ -18,7 +18,8 @@ pub enum Direction {
     Writes,
 }
 
-// Held bytes with lengths beside them, and no Vec or slice: R16.5. Of a read held begins with the value, of a write with the bytes sent; place is the count of bytes given or sent.
+// Held bytes with lengths beside them, and no Vec or slice: R16.5. Of a read held begins with the value, of a write with the bytes sent; place is the
+// count of bytes given or sent.
 #[derive(Clone, Copy)]
 pub struct Transfer {
     pub held: [u8; 64],

@@ -101,7 +101,7 @@ pub fn put_flags(s: &mut [u8], at: usize, a: bool, b: bool, c: bool, d: bool)
 
 // ---- parts
 
-// Bytes to a place of dst.
+// Bytes to a place of dst. No copy_from_slice, which is compiled to memmove where the length is not known: the library needs memcpy and memset alone.
 pub fn copy_at(dst: &mut [u8], at: usize, bytes: &[u8])
     requires { at + length bytes.now ≤ length dst.old }
     ensures { dst.new ≡ splice dst.old at bytes.now }
@@ -139,7 +139,7 @@ pub fn real_at(s: &[u8], at: usize) -> f32
     real_of(u32::at(s, at))
 }
 
-// The bit pattern of a REAL that is a number; minus zero keeps its own.
+// The bit pattern of a REAL that is a number; minus zero keeps its own. Beside real_of, which std has not for every pattern.
 pub fn bits_of(p: f32) -> u32
     requires { is_nan p ≡ false }
     ensures { result ≡ to_bits binary32 p }
