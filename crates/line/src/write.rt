@@ -46,7 +46,8 @@ pub fn conclude(state: &mut State, at: usize, row: Row, ending: Ending, room: &m
 
 // ---- parts
 
-// A part that is not the last.
+// A part that is not the last. What is known of t stands in the clauses of three functions, here, of take_last and of inbox's take_part: send_part hands it to each as it
+// stands, and a record of it would be put together there and taken apart here.
 fn take_more(state: &mut [u8], at: usize, t: Transfer, row: Row, part: &[u8], room: &mut [u8])
     requires { Room at state.old room.old × Writable t.row × (t.row ≡ row) × Allowed (at_row t.row) t.len × (t.place ≤ t.len) × (t ≡ record_at state.old at) }
     ensures { laid state.new room.new ≡ replied at state.old room.old t (take_more plain (key_at t.row) t.len t.len (take t.place t.held ++ part.now) (not t.toggle) (part_taken t.toggle)) }
