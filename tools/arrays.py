@@ -8,7 +8,8 @@ Card and block are worked on as packed bytes: no array has an element for each b
 in the LLVM module before anything is optimised, so parameters, results, unnamed values and fields of structs count too; what is lent
 counts where it is kept. Arrays and structs are bytes there, at places that are multiples of their widest number's width. So of what has
 two bytes or more, in a crate that has a card or a block in its hands, only what is listed here is meant, and what is lent: a slice is two
-words. An enum without values is one byte.
+words. An enum without values is one byte. A verdict and a number's bytes have the form of two or four bools, so the functions that may keep
+them are listed by name.
 """
 import glob
 import os
@@ -52,12 +53,11 @@ def meant(root):
     """What is kept, by crate: how many bytes at multiples of what, and what they are."""
     rows = constant(root, "find/src/columns.rt", "NV_ROWS")
     end = constant(root, "find/src/columns.rt", "NV_END")
-    record = constant(root, "state/src/lib.rt", "RECORD")
     fields = {(24, 4): "the fields of a trip point"}
     value = {(64, 1): "a transfer's value"}
     key = {(4, 2): "a key"}
     trips = {(4, 1): "all trips"}
-    transfer = value | key | {(104, 8): "a transfer, with its value"}
+    transfer = value | {(104, 8): "a transfer, with its value"}
     answer = {(8, 1): "an answer"}
     row = {(24, 8): "a row, if there is one"}
     verdict = {(2, 1): "a verdict, or how a write ends"}
@@ -77,16 +77,36 @@ def meant(root):
         "load": {(4 * rows, 4): "a number for each NV entry"},
         "store": bounds | {((end + 7) // 8 + 8, 1): "the bytes of a block"},
         "gauge": value | verdict,
-        "transfer": transfer | row,
-        "state": transfer | trips | {(2, 1): "a point's trips", (record, 1): "the bytes of a record"},
-        "line": transfer | answer | row | verdict,
+        "transfer": transfer | key | row,
+        "state": transfer | trips | {(2, 1): "a point's trips"},
+        "line": transfer | key | answer | row | verdict,
         "reader": reader,
         "mailbox": head | mail | reader,
-        "outbox": transfer | answer | row,
-        "inbox": transfer | answer | row | verdict | {(8, 4): "a length, if one is announced", (8, 8): "a count that a closure has"},
+        "outbox": transfer | key | answer | row,
+        "inbox": transfer | key | answer | row | verdict | {(8, 4): "a length, if one is announced"},
         "post": answer | said | head | key,
         "board": said | head | mail | trips | {(32, 8): "what is heard", (2, 1): "how a call ends"},
     }
+
+
+# by crate, the functions that may keep two to four bytes at any place
+FEW = {
+    "wire": "U16Number::at U16Number::put U32Number::at U32Number::put put_flags",
+    "limits": "judge judge_kind judge_number judge_real judge_whole",
+    "enter": "judge judge_layout judge_level judge_levels",
+    "gauge": "commit::check commit::commit commit::judge",
+    "state": "drop_all put_trips trips_at",
+    "line": "write::conclude write::take_last write::with_value",
+    "inbox": "take_part",
+    "board": "gauge_image gauge_mailbox gauge_message gauge_power_up gauge_sample hear number_of open_mailbox power_up show_image take_mailbox"
+    " take_sample",
+}
+
+
+def may_keep(function, size, places):
+    """May this function keep them, where its crate may?"""
+    crate, _, name = function.partition("::")
+    return size > 4 or places > 1 or name in FEW.get(crate, "").split()
 
 
 def kept(root):
@@ -132,6 +152,8 @@ def faults(root):
         for size, places, function in sorted(found[crate]):
             if (size, places) not in kinds:
                 yield f"{function} keeps {size} bytes at multiples of {places}, and none such are meant in crate {crate}"
+            elif not may_keep(function, size, places):
+                yield f"{function} keeps {size} bytes at multiples of {places}, and it is none of those in crate {crate} that may"
 
 
 def main():

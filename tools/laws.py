@@ -7,8 +7,8 @@ A `pub` name of crates/*/specs or crates/*/proofs is cited where another definit
 answer to a goal has the goal's name, and the check cites it; a theorem that stands for itself is listed by name, between backticks, in
 docs/PROMISES.md or docs/THEOREM.md. What is none of these is dead. So is a law without `pub` that its file does not use, a function or a
 constant of crates/*/src that no code uses, and an imported name that its file does not have; a trait is had where one of its functions
-is. What `#[tactic(..)]` names for a function's proof is cited there. A name listed among the theorems of docs/PROMISES.md that no file
-defines is an error too. One line each: crate, file, name; exits 1 if there is any.
+is called, as `.put(` or `::at(`. What `#[tactic(..)]` names for a function's proof is cited there. A name listed among the theorems of
+docs/PROMISES.md that no file defines is an error too. One line each: crate, file, name; exits 1 if there is any.
 """
 import pathlib
 import re
@@ -108,6 +108,10 @@ class File:
             found |= set.intersection(*parts)
         return any(at not in own for at in found)
 
+    def calls(self, name):
+        """Whether the file calls a trait's function of this name: by a value, or by its type or trait."""
+        return any(re.search(rf"(?:\.|::){name}(?:::<[^()]*>)?\(", line) for line in self.lines)
+
 
 def module_of(file):
     """The path by which a module names this file."""
@@ -177,8 +181,8 @@ def dead_imports(files):
     functions = traits(files)
     for file in files:
         for at, module, there, here in file.imports:
-            trait = functions.get(here, ()) if file.path.suffix == ".rt" else ()
-            if not any(file.used(name, ()) for name in (here, *trait)):
+            trait = functions.get(there or re.split(r"\.|::", module)[-1], ()) if file.path.suffix == ".rt" else ()
+            if not file.used(here, ()) and not any(file.calls(name) for name in trait):
                 yield file, at, f"{there or module}: imported and not used"
 
 

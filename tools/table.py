@@ -231,7 +231,7 @@ def table_problems(rows, end):
     if block_end(rows) > BLOCK_BITS:
         yield "the saved block needs %d bits" % block_end(rows)
     if not 128 < len(rows) <= 511:
-        yield "there are %d rows: the table has at most 511, and columns have a page from row 128 on" % len(rows)
+        yield "there are %d rows: the table has at most 511, and one of 128 or fewer was never proved" % len(rows)
     if len(limit_pairs(rows)[0]) > 64:
         yield "there are more than 64 pairs of limits"
     there = {(row["index"], row["sub"]) for row in rows}

@@ -241,7 +241,7 @@ def trip_defaults(folder):
 
 def whole_table(folder):
     """Pages whose every row is good, and that break the rule of the whole table."""
-    rows = "there are {} rows: the table has at most 511, and columns have a page from row 128 on"
+    rows = "there are {} rows: the table has at most 511, and one of 128 or fewer was never proved"
     for name, text, reason in [
             ("too many bytes of values", with_rows("STRING | RO | - | 64 | - | - | - | - | more | house |", 7),
              "the values end at byte 1047"),

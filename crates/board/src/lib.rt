@@ -259,6 +259,10 @@ fn power_up(form: u32, values: &mut [u8], block: &[u8], state: &mut [u8]) -> Res
     let Some(state) = state.as_mut_array() else {
         return Err(Refused::BadMemory);
     };
+    // what every call takes is as long as the sizes above say
+    prove!(values.len() == VALUES_SIZE);
+    prove!(block.len() == BLOCK_SIZE);
+    prove!(state.len() == STATE_SIZE);
     gauge::power::fill(values, block);
     state::drop_all(state);
     state::put_form(state, form != FORM_EIGHT);

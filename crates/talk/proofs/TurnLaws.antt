@@ -13,6 +13,7 @@ use Rattle.std.specs.Prelude.{Option, Some, None}
 use Rattle.dialogue.specs.Text.{answer_text, none_text, spoken}
 use Rattle.dialogue.specs.declared.hear.Pending.{Pending}
 use Rattle.dialogue.specs.Lines.{after, pending_spoken}
+use Rattle.dialogue.proofs.Hearing.{after-count}
 use Rattle.dialogue.proofs.TextLaws.{spoken-line}
 use Rattle.talk.specs.declared.serve.Memory.{Memory}
 use Rattle.talk.specs.Turns.{memory, Turn, turn, answered_turn, taken, OnLines}
@@ -50,6 +51,16 @@ module _ (begun p : Pending) (byte : ℕ) (m : Memory) (e : p ≡ after begun by
 
   pub byte_goes : p.ended ≡ false → progress p m ≡ after_byte (progress begun m) byte
   byte_goes h = sym (served_false p.ended p m h) ∙ byte_served
+
+served-pending : (e : Bool) (p : Pending) (m : Memory) → (served_if e p m).pending ≡ p
+unfolding served_if
+served-pending true p m = refl
+served-pending false p m = refl
+
+-- no more than twenty bytes are kept
+pub byte-kept : (g next : Progress) (b : ℕ) → next ≡ after_byte g b → g.pending.count ≤ 20 → next.pending.count ≤ 20
+unfolding after_byte
+byte-kept g next b e h = rw (e, served-pending) (after-count g.pending b h)
 
 pub bytes-turn : (bytes : List ℕ) (i : ℕ) (g next : Progress) → i < length bytes → next ≡ after_byte g (get_or bytes i 0) → after_bytes next (drop (i + 1) bytes) ≡ after_bytes g (drop i bytes)
 unfolding after_bytes

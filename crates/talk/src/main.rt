@@ -3,6 +3,8 @@
 
 mod serve;
 
+ghost use Rattle.std.specs.Prelude.{◌≤◌, IfOk};
+
 use dialogue::hear::Pending;
 use serve::Memory;
 use std::io;
@@ -14,7 +16,9 @@ fn hear_some(
     input: &mut impl Read,
     pending: &mut Pending,
     memory: &mut Memory,
-) -> io::Result<bool> {
+) -> io::Result<bool>
+    ensures { pending.old.count ≤ 20 → pending.new.count ≤ 20 }
+{
     let mut buffer = [0u8; 4096];
     let count = input.read(&mut buffer)?;
     serve::serve_bytes(rt, &buffer[..count], pending, memory)?;
@@ -22,18 +26,16 @@ fn hear_some(
 }
 
 // A proved loop has to end, and nothing says that the input does. So it counts its reads, up to a number that no run comes to.
-fn hear_all(
-    rt: &impl Print,
-    input: &mut impl Read,
-    pending: &mut Pending,
-    memory: &mut Memory,
-) -> io::Result<()> {
+fn hear_all(rt: &impl Print, input: &mut impl Read, memory: &mut Memory) -> io::Result<Pending>
+    ensures { IfOk result (λ last. last.count ≤ 20) }
+{
+    let mut pending = Pending::new();
     for _ in 0..u64::MAX {
-        if !hear_some(rt, input, pending, memory)? {
+        if !hear_some(rt, input, &mut pending, memory)? {
             break;
         }
     }
-    Ok(())
+    Ok(pending)
 }
 
 fn main(rt: HostRuntime) -> io::Result<()> {
@@ -48,10 +50,9 @@ fn main(rt: HostRuntime) -> io::Result<()> {
         &memory.block,
         &mut memory.state,
     );
-    let mut pending = Pending::new();
-    hear_all(&rt, &mut rt.reader(), &mut pending, &mut memory)?;
-    if pending.is_left() {
-        serve::serve_line(&rt, &pending, &mut memory)?;
+    let last = hear_all(&rt, &mut rt.reader(), &mut memory)?;
+    if last.is_left() {
+        serve::serve_line(&rt, &last, &mut memory)?;
     }
     Ok(())
 }

@@ -73,6 +73,7 @@ pub fn serve_bytes(
     pending: &mut Pending,
     memory: &mut Memory,
 ) -> io::Result<()>
+    ensures kept { pending.old.count ≤ 20 → pending.new.count ≤ 20 }
     ensures ok { IfOk result (λ _. progress pending.new memory.new ≡ after_bytes (progress pending.old memory.old) bytes.now) }
     ensures err { OnErr result (SomeTaken (progress pending.old memory.old) bytes.now memory.new) }
 {

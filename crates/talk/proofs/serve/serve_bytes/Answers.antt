@@ -2,13 +2,13 @@
 use Rattle.std.proofs.Common.{refl, ap, ◌∙◌, arith}
 use Rattle.std.proofs.lemmas.Result.{err_from_is_err_and}
 use Rattle.talk.specs.Run.{Progress, progress, after_bytes}
-use Rattle.talk.proofs.TurnLaws.{bytes-turn, bytes-done}
+use Rattle.talk.proofs.TurnLaws.{byte-kept, bytes-turn, bytes-done}
 use Rattle.talk.proofs.Whole.{taken_next, left_next}
 use Rattle.talk.proofs.serve.serve_bytes.Goals as goal
 
 pub loop-byte-init : goal.loop-byte-init
 unfolding after_bytes
-loop-byte-init g c = record { to_come = refl; so_far = refl }
+loop-byte-init g c = record { to_come = refl; so_far = refl; kept = λ h. h }
 
 pub loop-byte-preserved : goal.loop-byte-preserved
 loop-byte-preserved g c =
@@ -18,7 +18,15 @@ loop-byte-preserved g c =
     record {
       to_come = bytes-turn c.args.bytes.now w.byte-index now next (omega arith) c.serve_byte.ensures ∙ w.invariant.to_come;
       so_far = taken_next c.args.bytes.now w.byte-index (progress c.args.pending.now c.args.memory.now) now (omega arith) w.invariant.so_far next c.serve_byte.ensures;
+      kept = λ h. byte-kept now next _ c.serve_byte.ensures (w.invariant.kept h);
     }
+
+pub returns-in_err-serve_byte-clause-kept : goal.returns-in_err-serve_byte-clause-kept
+returns-in_err-serve_byte-clause-kept g c =
+    λ h. byte-kept (progress c.loop-byte.pending c.loop-byte.memory) (progress c.serve_byte.new.pending c.serve_byte.new.memory) _ c.serve_byte.ensures (c.loop-byte.invariant.kept h)
+
+pub returns-clause-kept : goal.returns-clause-kept
+returns-clause-kept g c = c.loop-byte.invariant.kept
 
 pub returns-in_err-serve_byte-clause-err : goal.returns-in_err-serve_byte-clause-err
 returns-in_err-serve_byte-clause-err g c =
