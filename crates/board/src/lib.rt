@@ -80,14 +80,12 @@ fn number_of(outcome: Result<Done, Refused>) -> u32
     }
 }
 
+// By the line's number: with an if, a part of a write with no transfer takes 1.51 times the independent board's instructions, of 1.5.
 fn place_of(line: u32) -> usize
     requires { line ≤ 1 }
     ensures { (result ≡ record_place line) × (result + record_size ≤ state_size) }
 {
-    if line == LINE_TOOL {
-        return state::TOOL;
-    }
-    state::SERVICE
+    state::SERVICE * line as usize
 }
 
 // Does a line speak in eight bytes?

@@ -22,12 +22,14 @@ fn give_part(state: &mut [u8], at: usize, t: Transfer, room: &mut [u8])
     requires { Room at state.old room.old × (t.len ≤ 64) × (t.place ≤ t.len) }
     ensures { laid state.new room.new ≡ replied at state.old room.old t (give_part plain eight (key_at t.row) (take t.len t.held) t.place t.toggle) }
 {
+    // lent by themselves: with the record lent, all of it is put on the stack, in every message
+    let held = t.held;
     if t.len <= t.place + sdo::PART {
-        let eight = answer::part_last(&t.held, t.len, t.place, t.toggle);
+        let eight = answer::part_last(&held, t.len, t.place, t.toggle);
         reply::ended(state, at, room, eight);
         return;
     }
-    let eight = answer::part_more(&t.held, t.place, t.toggle);
+    let eight = answer::part_more(&held, t.place, t.toggle);
     reply::going(state, at, transfer::turned(t, sdo::PART), room, eight);
 }
 

@@ -80,9 +80,10 @@ fn take_last(
     let len = t.len;
     let total = t.place + part.len();
     if length_fits(len, len, total) {
-        let next = transfer::grown(t, part);
+        // by themselves, as in read's give_part
+        let held = transfer::grown(t, part).held;
         reply::tell(room, answer::part_taken(t.toggle));
-        let ending = commit::commit(values, block, row, &next.held[..len]);
+        let ending = commit::commit(values, block, row, &held[..len]);
         conclude(state, at, row, ending, room);
         return;
     }
