@@ -9,13 +9,14 @@ in the LLVM module before anything is optimised, so parameters, results, unnamed
 counts where it is kept. Arrays and structs are bytes there, at places that are multiples of their widest number's width. So of what has
 two bytes or more, in a crate that has a card or a block in its hands, only what is listed here is meant, and what is lent: a slice is two
 words. An enum without values is one byte. A verdict and a number's bytes have the form of two or four bools, so the functions that may keep
-them are listed by name.
+them are listed by name, with how many each keeps.
 """
 import glob
 import os
 import re
 import sys
 import tempfile
+from collections import Counter
 
 sys.dont_write_bytecode = True
 import lowered
@@ -89,24 +90,34 @@ def meant(root):
     }
 
 
-# by crate, the functions that may keep two to four bytes at any place
+# by crate, the functions that may keep two to four bytes at any place, and how often
 FEW = {
-    "wire": "U16Number::at U16Number::put U32Number::at U32Number::put put_flags",
-    "limits": "judge judge_kind judge_number judge_real judge_whole",
-    "enter": "judge judge_layout judge_level judge_levels",
-    "gauge": "commit::check commit::commit commit::judge",
-    "state": "drop_all put_trips trips_at",
-    "line": "write::conclude write::take_last write::with_value",
-    "inbox": "take_part",
-    "board": "gauge_image gauge_mailbox gauge_message gauge_power_up gauge_sample hear number_of open_mailbox power_up show_image take_mailbox"
-    " take_sample",
+    "wire": {"U16Number::at": 1, "U16Number::put": 2, "U32Number::at": 1, "U32Number::put": 2, "put_flags": 1},
+    "limits": {"judge": 2, "judge_kind": 1, "judge_number": 2, "judge_real": 1, "judge_whole": 1},
+    "enter": {"judge": 4, "judge_layout": 1, "judge_level": 1, "judge_levels": 5},
+    "gauge": {"commit::check": 3, "commit::commit": 3, "commit::judge": 1},
+    "state": {"drop_all": 1, "put_trips": 3, "trips_at": 5},
+    "line": {"write::conclude": 1, "write::take_last": 1, "write::with_value": 1},
+    "inbox": {"take_part": 1},
+    "board": {"gauge_image": 1, "gauge_mailbox": 1, "gauge_message": 1, "gauge_power_up": 1, "gauge_sample": 1, "hear": 1, "number_of": 1,
+              "open_mailbox": 1, "power_up": 1, "show_image": 1, "take_mailbox": 1, "take_sample": 3},
 }
 
 
-def may_keep(function, size, places):
-    """May this function keep them, where its crate may?"""
-    crate, _, name = function.partition("::")
-    return size > 4 or places > 1 or name in FEW.get(crate, "").split()
+def is_few(size, places):
+    """Has it the form of two to four bools?"""
+    return size <= 4 and places == 1
+
+
+def too_many(crate, locals_of):
+    """The functions of a crate that keep more of two to four bytes than they may: (function, how many, how many it may)."""
+    counts = Counter()
+    for (size, places, function), number in locals_of.items():
+        counts[function] += number if is_few(size, places) else 0
+    for function, number in sorted(counts.items()):
+        may = FEW.get(crate, {}).get(function.partition("::")[2], 0)
+        if number > may:
+            yield function, number, may
 
 
 def kept(root):
@@ -139,7 +150,8 @@ def faults(root):
     """Prints what each crate keeps; gives what is not meant, and crates of which this page says nothing."""
     allowed, found = meant(root), {}
     for function, size, places in kept(root):
-        found.setdefault(function.split("::")[0], set()).update([(size, places, function)] if size >= LEAST and (size, places) != SLICE else [])
+        locals_of = found.setdefault(function.split("::")[0], Counter())
+        locals_of.update([(size, places, function)] if size >= LEAST and (size, places) != SLICE else [])
     for crate in lowered.crates(root):
         if crate not in allowed and crate not in ELSEWHERE and has_code(root, crate):
             yield f"crate {crate} is not listed: has it a card or a block in its hands?"
@@ -152,8 +164,9 @@ def faults(root):
         for size, places, function in sorted(found[crate]):
             if (size, places) not in kinds:
                 yield f"{function} keeps {size} bytes at multiples of {places}, and none such are meant in crate {crate}"
-            elif not may_keep(function, size, places):
-                yield f"{function} keeps {size} bytes at multiples of {places}, and it is none of those in crate {crate} that may"
+        meant_ones = Counter({local: number for local, number in found[crate].items() if local[:2] in kinds})
+        for function, number, may in too_many(crate, meant_ones):
+            yield f"{function} keeps two to four bytes at any place {number} times, and it may {may} times"
 
 
 def main():
